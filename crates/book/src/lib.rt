@@ -1,0 +1,81 @@
+// The pattern book, and the question about one job.
+ghost use mathlib.Core.Path.{_≡_};
+ghost use Prim.Native.Nat.{_<_, _≤_, _/_, _%_, _^_};
+ghost use lib.Dec.{eqb};
+ghost use lib.ListN.{getD};
+ghost use Rattle.law.specs.Pattern.{InRange, theBook, word, pairWord, question};
+ghost use Rattle.book.specs.Shown.{jobShown, wordShown};
+
+mod words;
+
+use refusal::Refusal;
+use refusal::is_within;
+use words::BOOK;
+
+// What is known of one job.
+pub enum Job {
+    Mandatory,
+    Optional,
+    Refused(Refusal),
+}
+
+// The word of a pair.
+pub enum Word {
+    Is(u64),
+    Refused(Refusal),
+}
+
+// The word at a place of the book. The constant is laid on the stack at each use: a run fetches its words once.
+fn word_at(place: usize) -> u64
+    requires { ⌜ place < 2080 ⌝ }
+    ensures { λ r. ⌜ r ≡ getD theBook place 0 ⌝ }
+{
+    BOOK[place]
+}
+
+// The word of a pair.
+pub fn pattern(m: u64, k: u64) -> u64
+    requires { ⌜ InRange m k ⌝ }
+    ensures { λ r. ⌜ r ≡ word m k ⌝ }
+{
+    let place = k * (k - 1) / 2 + m - 1;
+    word_at(place as usize)
+}
+
+// Whether the job at a place of a pattern is mandatory: the place's bit, brought down by a shift.
+pub fn bit_at(pattern: u64, place: u64) -> bool
+    requires { ⌜ place < 64 ⌝ }
+    ensures { λ r. ⌜ r ≡ eqb (pattern / 2 ^ place % 2) 1 ⌝ }
+{
+    (pattern >> place) % 2 == 1
+}
+
+// The word of a pair that a caller offers.
+pub fn word_of(m: u32, k: u32) -> Word
+    ensures { λ r. ⌜ wordShown r ≡ pairWord m k ⌝ }
+{
+    let wide_m = m as u64;
+    let wide_k = k as u64;
+    if !is_within(1, 64, wide_k) {
+        return Word::Refused(Refusal::K(0));
+    }
+    if !is_within(1, wide_k, wide_m) {
+        return Word::Refused(Refusal::M(0));
+    }
+    Word::Is(pattern(wide_m, wide_k))
+}
+
+// Is job number `job` of a task with m out of k mandatory? The pattern repeats after k jobs.
+pub fn ask(m: u32, k: u32, job: u32) -> Job
+    ensures { λ r. ⌜ jobShown r ≡ question m k job ⌝ }
+{
+    let word = match word_of(m, k) {
+        Word::Is(word) => word,
+        Word::Refused(refusal) => return Job::Refused(refusal),
+    };
+    if bit_at(word, (job % k) as u64) {
+        Job::Mandatory
+    } else {
+        Job::Optional
+    }
+}

@@ -1,0 +1,134 @@
+-- Searching and building, a number at a time: what a loop has found so far, and what a list built from a function holds.
+use mathlib.Core.Bool.{Bool, true, false}
+use mathlib.Core.List.{List, [], _∷_, _++_}
+use mathlib.Core.Path.{_≡_, refl, sym, ap, _∙_}
+use Prim.Native.Nat.{ℕ, zero, suc, _+_, _-_, _≤_, _<_}
+use native.Mathlib.Decide.{decLt}
+use native.Mathlib.Nat.{sub-zero}
+use native.Mathlib.Numerals.{add-one}
+use native.Mathlib.Omega.{arith}
+use lib.ListN.{length, getD, length-append, List·getD-append}
+use lib.Seq.{getD-at}
+use Rattle.law.specs.Sums.{bit, pick, firstFrom, first, build}
+use Rattle.law.proofs.Tests.{Known, passes, fails, known, never-both}
+
+-- what a loop that has come to i has found of the first number below n that passes: it is still to come, from i on
+pub record Searched (p : ℕ → Bool) (n i : ℕ) : Type 0 where
+  pub reached : i ≤ n
+  pub rest : firstFrom p i (n - i) ≡ first p n
+
+module _ {p : ℕ → Bool} {n i : ℕ} where
+  pub searched-hit : Searched p n i → i < n → p i ≡ true → first p n ≡ i
+  unfolding firstFrom
+  searched-hit s h e =
+      let l : n - i ≡ suc (n - suc i) = omega arith in
+      sym (s .rest) ∙ rw (l, e)
+
+  pub searched-next : Searched p n i → i < n → p i ≡ false → Searched p n (i + 1)
+  unfolding firstFrom
+  searched-next s h e =
+      record {
+        reached = omega arith;
+        rest = let l : n - i ≡ suc (n - suc i) = omega arith in rw (add-one, ← (s .rest), l, e);
+      }
+
+  pub searched-end : Searched p n i → n ≤ i → first p n ≡ n
+  unfolding firstFrom
+  searched-end s h =
+      let l : n - i ≡ zero = omega arith in
+      let e : i ≡ n = omega (arith, s .reached) in
+      sym (s .rest) ∙ rw l e
+
+pub searched-start : (p : ℕ → Bool) (n : ℕ) → Searched p n 0
+searched-start p n = record { reached = omega arith; rest = ap (λ (z : ℕ). firstFrom p 0 z) (sub-zero n) }
+
+-- the first hit, by the test at the place where the search begins
+module _ (p : ℕ → Bool) where
+  first-now : (i n : ℕ) → p i ≡ true → firstFrom p i (suc n) ≡ i
+  unfolding firstFrom
+  first-now i n e = rw e
+
+  first-later : (i n : ℕ) → p i ≡ false → firstFrom p i (suc n) ≡ firstFrom p (suc i) n
+  unfolding firstFrom
+  first-later i n e = rw e
+
+  first-end : (i : ℕ) → firstFrom p i 0 ≡ i
+  unfolding firstFrom
+  first-end i = refl
+
+  pub first-low : (i n : ℕ) → i ≤ firstFrom p i n
+  first-low i zero = omega (arith, first-end i)
+  first-low i (suc n) =
+      elim (known (p i)) [
+        | passes e ↦ omega (arith, first-now i n e)
+        | fails e ↦ omega (arith, first-later i n e, first-low (suc i) n)
+      ]
+
+  pub first-high : (i n : ℕ) → firstFrom p i n ≤ i + n
+  first-high i zero = omega (arith, first-end i)
+  first-high i (suc n) =
+      elim (known (p i)) [
+        | passes e ↦ omega (arith, first-now i n e)
+        | fails e ↦ omega (arith, first-later i n e, first-high (suc i) n)
+      ]
+
+  pub first-found : (i n : ℕ) → firstFrom p i n < i + n → p (firstFrom p i n) ≡ true
+  first-found i zero h = absurd (omega (arith, first-end i))
+  first-found i (suc n) h =
+      elim (known (p i)) [
+        | passes e ↦ ap p (first-now i n e) ∙ e
+        | fails e ↦ ap p (first-later i n e) ∙ first-found (suc i) n (omega (arith, first-later i n e))
+      ]
+
+  pub first-before : (i n j : ℕ) → i ≤ j → j < firstFrom p i n → p j ≡ false
+  first-before i zero j l h = absurd (omega (arith, first-end i))
+  first-before i (suc n) j l h =
+      elim (known (p i)) [
+        | passes e ↦ absurd (omega (arith, first-now i n e))
+        | fails e ↦ elim (decLt i j) [
+          | yes k ↦ first-before (suc i) n j k (omega (arith, first-later i n e))
+          | no k ↦ let same : j ≡ i = omega arith in ap p same ∙ e
+        ]
+      ]
+
+  pub first-least : (i n j : ℕ) → i ≤ j → p j ≡ true → firstFrom p i n ≤ j
+  first-least i n j l e =
+      elim (decLt j (firstFrom p i n)) [
+        | yes h ↦ absurd (never-both (p j) e (first-before i n j l h))
+        | no h ↦ omega arith
+      ]
+
+  -- and no other number is so
+  pub first-is : (i n x : ℕ) → i ≤ x → x ≤ i + n → (x < i + n → p x ≡ true) → ((j : ℕ) → i ≤ j → j < x → p j ≡ false)
+      → firstFrom p i n ≡ x
+  first-is i n x l h found before =
+      elim (decLt (firstFrom p i n) x) [
+        | yes k ↦ absurd
+            (never-both _ (first-found i n (omega arith)) (before (firstFrom p i n) (first-low i n) k))
+        | no k ↦ elim (decLt x (firstFrom p i n)) [
+          | yes q ↦ absurd
+              (never-both _ (found (omega (arith, first-high i n))) (first-before i n x l q))
+          | no q ↦ omega arith
+        ]
+      ]
+
+pub first-cong : (p q : ℕ → Bool) (i n : ℕ) → ((j : ℕ) → p j ≡ q j) → firstFrom p i n ≡ firstFrom q i n
+unfolding firstFrom
+first-cong p q i zero e = refl
+first-cong p q i (suc n) e = rw (e i, first-cong p q (suc i) n e)
+
+-- how many pass
+
+pub build-length : {A : Type 0} (f : ℕ → A) (n : ℕ) → length (build f n) ≡ n
+unfolding build
+build-length f zero = refl
+build-length f (suc n) = length-append (build f n) (f n ∷ []) ∙ omega (arith, build-length f n)
+
+pub build-at : {A : Type 0} (f : ℕ → A) (n i : ℕ) (d : A) → i < n → getD (build f n) i d ≡ f i
+unfolding build
+build-at f zero i d h = absurd (omega arith)
+build-at f (suc n) i d h =
+    elim (decLt i n) [
+      | yes l ↦ List·getD-append (build f n) (f n ∷ []) d i (omega (arith, build-length f n)) ∙ build-at f n i d l
+      | no l ↦ let e : n ≡ i = omega arith in getD-at (build f n) (f n) [] d i (build-length f n ∙ e) ∙ ap f e
+    ]

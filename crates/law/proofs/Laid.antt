@@ -1,0 +1,242 @@
+-- A state laid out as words: each row stands at its place, a row stored there is the state with that row, and well-formed words are the
+-- words of the state that they say.
+use mathlib.Core.Bool.{Bool, true, false}
+use mathlib.Core.List.{List, [], _∷_, _++_, append-assoc}
+use mathlib.Core.Path.{_≡_, refl, sym, ap, _∙_}
+use Prim.Native.Nat.{ℕ, zero, suc, _+_, _-_, _*_, _/_, _%_, _≤_, _<_}
+use native.Mathlib.Decide.{decLt}
+use native.Mathlib.Nat.{add-suc, add-zero, suc-mul, zero-mul, zero-add, div-add-mod', mod-lt, le-refl}
+use native.Mathlib.Omega.{arith}
+use lib.Dec.{leb, eqb}
+use lib.ListN.{length, getD, set, take, drop, replicate, length-append, length-replicate, length-set, length-drop, getD-replicate, List·getD-append}
+use lib.Seq.{sets, sets-eq, getD-append-add, getD-drop, ext-getD, take-append-add, drop-append-add}
+use borrow.Author.Tests.{eqb-true}
+use Rattle.law.specs.Sums.{bit, both, every, build}
+use Rattle.law.specs.Table.{taskOf}
+use Rattle.law.specs.Tick.{Row, State, noRow}
+use Rattle.law.specs.State.{rowOf, rowAt, stateOf, wordsOf, rowsLaid, laid, setsFrom, withRow}
+use Rattle.law.proofs.First.{build-length, build-at}
+use Rattle.law.proofs.Tests.{both-left, both-right}
+
+-- ---- one row
+
+pub row-length : (r : Row) → length (wordsOf r) ≡ 18
+unfolding wordsOf
+row-length r = refl
+
+row-again : (r : Row) → rowOf (λ j. getD (wordsOf r) j 0) ≡ r
+unfolding wordsOf rowOf taskOf
+row-again r = refl
+
+-- two rows of words are the same where their eighteen words are
+row-same : (f g : ℕ → ℕ) → ((j : ℕ) → j < 18 → f j ≡ g j) → rowOf f ≡ rowOf g
+unfolding rowOf taskOf
+row-same f g h =
+    λ i. record {
+      core =
+          record {
+            task =
+                record {
+                  id = h 0 (omega arith) i;
+                  c = h 1 (omega arith) i;
+                  t = h 2 (omega arith) i;
+                  d = h 3 (omega arith) i;
+                  m = h 4 (omega arith) i;
+                  k = h 5 (omega arith) i;
+                };
+            wait = h 6 (omega arith) i;
+            place = h 7 (omega arith) i;
+            work = h 8 (omega arith) i;
+            left = h 9 (omega arith) i;
+            kind = h 10 (omega arith) i;
+          };
+      tally =
+          record {
+            window = h 11 (omega arith) i;
+            released = h 12 (omega arith) i;
+            mm = h 13 (omega arith) i;
+            mx = h 14 (omega arith) i;
+            om = h 15 (omega arith) i;
+            ox = h 16 (omega arith) i;
+            broken = h 17 (omega arith) i;
+          };
+    }
+
+word-of-row : (f : ℕ → ℕ) (j : ℕ) → j < 18 → getD (wordsOf (rowOf f)) j 0 ≡ f j
+unfolding wordsOf rowOf taskOf build
+word-of-row f j h = build-at f 18 j 0 h
+
+-- ---- all rows
+
+pub rows-length : (rows : List Row) → length (rowsLaid rows) ≡ length rows * 18
+unfolding rowsLaid
+rows-length [] = refl
+rows-length (r ∷ rows) = length-append (wordsOf r) (rowsLaid rows) ∙ omega (arith, row-length r, rows-length rows, suc-mul (length rows) 18)
+
+-- word j of row i, whatever follows the rows
+rows-at : (rows : List Row) (rest : List ℕ) (i j : ℕ) → i < length rows → j < 18
+    → getD (rowsLaid rows ++ rest) (i * 18 + j) 0 ≡ getD (wordsOf (getD rows i noRow)) j 0
+unfolding rowsLaid
+rows-at [] rest i j h l = absurd (omega arith)
+rows-at (r ∷ rows) rest zero j h l =
+    let e : zero * 18 + j ≡ j = omega arith in
+    rw e
+    (ap (λ (z : List ℕ). getD z j 0) (append-assoc (wordsOf r) (rowsLaid rows) rest)
+    ∙ List·getD-append (wordsOf r) (rowsLaid rows ++ rest) 0 j (omega (arith, row-length r)))
+rows-at (r ∷ rows) rest (suc i) j h l =
+    let e : suc i * 18 + j ≡ length (wordsOf r) + (i * 18 + j) = omega (arith, suc-mul i 18, row-length r) in
+    rw e
+    (ap (λ (z : List ℕ). getD z (length (wordsOf r) + (i * 18 + j)) 0) (append-assoc (wordsOf r) (rowsLaid rows) rest)
+    ∙ getD-append-add (wordsOf r) (rowsLaid rows ++ rest) (i * 18 + j) 0 ∙ rows-at rows rest i j (omega arith) l)
+
+first-set : (q r : Row) (l rest : List ℕ) → wordsOf r ++ drop 18 ((wordsOf q ++ l) ++ rest) ≡ (wordsOf r ++ l) ++ rest
+unfolding wordsOf
+first-set q r l rest = refl
+
+-- another row i: its words in place of the old ones
+rows-set : (rows : List Row) (rest : List ℕ) (i : ℕ) (r : Row) → i < length rows
+    → take (i * 18) (rowsLaid rows ++ rest) ++ (wordsOf r ++ drop (i * 18 + 18) (rowsLaid rows ++ rest)) ≡ rowsLaid (set rows i r) ++ rest
+unfolding rowsLaid
+rows-set [] rest i r h = absurd (omega arith)
+rows-set (q ∷ rows) rest zero r h = first-set q r (rowsLaid rows) rest
+rows-set (q ∷ rows) rest (suc i) r h =
+    let x = rowsLaid rows ++ rest in
+    let w = wordsOf q in
+    let e : suc i * 18 ≡ length w + i * 18 = omega (arith, suc-mul i 18, row-length q) in
+    let f : suc i * 18 + 18 ≡ length w + (i * 18 + 18) = omega (arith, suc-mul i 18, row-length q) in
+    ap (λ (z : List ℕ). take (suc i * 18) z ++ (wordsOf r ++ drop (suc i * 18 + 18) z)) (append-assoc w (rowsLaid rows) rest)
+    ∙ ap (λ (z : ℕ). take z (w ++ x) ++ (wordsOf r ++ drop (suc i * 18 + 18) (w ++ x))) e
+    ∙ ap (λ (z : ℕ). take (length w + i * 18) (w ++ x) ++ (wordsOf r ++ drop z (w ++ x))) f
+    ∙ ap (λ (z : List ℕ). z ++ (wordsOf r ++ drop (length w + (i * 18 + 18)) (w ++ x))) (take-append-add w x (i * 18))
+    ∙ ap (λ (z : List ℕ). (w ++ take (i * 18) x) ++ (wordsOf r ++ z)) (drop-append-add w x (i * 18 + 18))
+    ∙ append-assoc w (take (i * 18) x) (wordsOf r ++ drop (i * 18 + 18) x)
+    ∙ ap (λ (z : List ℕ). w ++ z) (rows-set rows rest i r (omega arith)) ∙ sym (append-assoc w (rowsLaid (set rows i r)) rest)
+
+-- ---- the whole state
+
+-- rows past the last
+nothing-after : ℕ → List ℕ
+nothing-after n = replicate ((32 - n) * 18) 0
+
+body : (s : State) → laid s ≡ length (s .rows) ∷ s .time ∷ s .idle ∷ (rowsLaid (s .rows) ++ nothing-after (length (s .rows)))
+unfolding laid nothing-after
+body s = refl
+
+pub laid-length : (s : State) → length (s .rows) ≤ 32 → length (laid s) ≡ 579
+unfolding laid
+laid-length s h =
+    let rest : List ℕ = replicate ((32 - length (s .rows)) * 18) 0 in
+    let l : length rest ≡ (32 - length (s .rows)) * 18 = length-replicate ((32 - length (s .rows)) * 18) 0 in
+    omega (arith, length-append (rowsLaid (s .rows)) rest, rows-length (s .rows), l)
+
+-- word j of row i
+laid-word : (s : State) (i j : ℕ) → i < length (s .rows) → j < 18
+    → getD (laid s) (i * 18 + (3 + j)) 0 ≡ getD (wordsOf (getD (s .rows) i noRow)) j 0
+unfolding laid
+laid-word s i j h l =
+    let e : i * 18 + (3 + j) ≡ suc (suc (suc (i * 18 + j))) = omega arith in
+    rw e (rows-at (s .rows) _ i j h l)
+
+pub laid-row : (s : State) (i : ℕ) → i < length (s .rows) → rowAt (laid s) i ≡ getD (s .rows) i noRow
+laid-row s i h =
+    row-same (λ j. getD (laid s) (i * 18 + (3 + j)) 0) (λ j. getD (wordsOf (getD (s .rows) i noRow)) j 0) (λ j l. laid-word s i j h l)
+    ∙ row-again (getD (s .rows) i noRow)
+
+sets-are : (words : List ℕ) (b n : ℕ) (vs : List ℕ) → setsFrom words b n vs ≡ sets words (b + n) vs
+unfolding setsFrom
+sets-are words b n [] = refl
+sets-are words b n (v ∷ vs) =
+    sets-are (set words (b + n) v) b (suc n) vs ∙ ap (λ (z : ℕ). sets (set words (b + n) v) z vs) (add-suc b n)
+
+pub laid-put : (s : State) (i : ℕ) (r : Row) → length (s .rows) ≤ 32 → i < length (s .rows)
+    → setsFrom (laid s) (i * 18) 3 (wordsOf r) ≡ laid (withRow s i r)
+unfolding laid nothing-after
+laid-put s i r few h =
+    let x = rowsLaid (s .rows) ++ nothing-after (length (s .rows)) in
+    let e : i * 18 + 3 ≡ suc (suc (suc (i * 18))) = omega arith in
+    let f : i * 18 + 3 + length (wordsOf r) ≡ suc (suc (suc (i * 18 + 18))) = omega (arith, row-length r) in
+    sets-are (laid s) (i * 18) 3 (wordsOf r)
+    ∙ sets-eq (wordsOf r) (laid s) (i * 18 + 3) (omega (arith, laid-length s few, row-length r))
+    ∙ append-assoc (take (i * 18 + 3) (laid s)) (wordsOf r) (drop (i * 18 + 3 + length (wordsOf r)) (laid s))
+    ∙ ap (λ (z : ℕ). take z (laid s) ++ (wordsOf r ++ drop (i * 18 + 3 + length (wordsOf r)) (laid s))) e
+    ∙ ap (λ (z : ℕ). take (suc (suc (suc (i * 18)))) (laid s) ++ (wordsOf r ++ drop z (laid s))) f
+    ∙ ap (λ (z : List ℕ). length (s .rows) ∷ s .time ∷ s .idle ∷ z) (rows-set (s .rows) (nothing-after (length (s .rows))) i r h)
+    ∙ ap (λ (z : ℕ). z ∷ s .time ∷ s .idle ∷ (rowsLaid (set (s .rows) i r) ++ nothing-after z)) (sym (length-set (s .rows) i r))
+
+-- ---- words and the state that they say
+
+pub state-laid : (s : State) → stateOf (laid s) ≡ s
+unfolding stateOf laid
+state-laid s = λ j. record { time = s .time; idle = s .idle; rows = same j }
+  where
+    same : build (rowAt (laid s)) (length (s .rows)) ≡ s .rows
+    same =
+        ext-getD noRow (build (rowAt (laid s)) (length (s .rows))) (s .rows) (build-length (rowAt (laid s)) (length (s .rows)))
+        (λ i h. at i (rw (build-length (rowAt (laid s)) (length (s .rows))) at h))
+      where
+        at : (i : ℕ) → i < length (s .rows) → getD (build (rowAt (laid s)) (length (s .rows))) i noRow ≡ getD (s .rows) i noRow
+        at i h = build-at (rowAt (laid s)) (length (s .rows)) i noRow h ∙ laid-row s i h
+
+pub every-at : {A : Type 0} (p : A → Bool) (l : List A) (i : ℕ) (d : A) → every p l ≡ true → i < length l → p (getD l i d) ≡ true
+unfolding every
+every-at p [] i d e h = absurd (omega arith)
+every-at p (x ∷ l) zero d e h = both-left (p x) (every p l) e
+every-at p (x ∷ l) (suc i) d e h = every-at p l i d (both-right (p x) (every p l) e) (omega arith)
+
+module _ (words : List ℕ) (long : length words ≡ 579) (few : getD words 0 0 ≤ 32) where
+  n-rows : ℕ
+  n-rows = getD words 0 0
+
+  said : List Row
+  said = stateOf words .rows
+
+  said-length : length said ≡ n-rows
+  unfolding said stateOf n-rows
+  said-length = build-length (rowAt words) (getD words 0 0)
+
+  -- a word of a row
+  in-row : (i j : ℕ) → i < n-rows → j < 18 → getD words (i * 18 + (3 + j)) 0 ≡ getD (laid (stateOf words)) (i * 18 + (3 + j)) 0
+  unfolding said stateOf n-rows
+  in-row i j h l =
+      sym
+      (laid-word (stateOf words) i j (omega (arith, said-length)) l
+      ∙ ap (λ (z : Row). getD (wordsOf z) j 0) (build-at (rowAt words) (getD words 0 0) i noRow h)
+      ∙ word-of-row (λ j. getD words (i * 18 + (3 + j)) 0) j l)
+
+  -- a word past the last row
+  past-rows : (p : ℕ) → n-rows * 18 ≤ p → p < 576 → getD (laid (stateOf words)) (suc (suc (suc p))) 0 ≡ 0
+  unfolding laid said n-rows
+  past-rows p h l =
+      let e : p ≡ length (rowsLaid said) + (p - n-rows * 18) = omega (arith, rows-length said, said-length) in
+      rw e
+      (getD-append-add (rowsLaid said) (replicate ((32 - length said) * 18) 0) (p - n-rows * 18) 0
+      ∙ getD-replicate ((32 - length said) * 18) (p - n-rows * 18) 0 0 (omega (arith, said-length)))
+
+  module _ (clear : every (λ w. eqb w 0) (drop (3 + getD words 0 0 * 18) words) ≡ true) where
+    clear-at : (p : ℕ) → n-rows * 18 ≤ p → p < 576 → getD words (suc (suc (suc p))) 0 ≡ 0
+    unfolding n-rows
+    clear-at p h l =
+        let k = 3 + getD words 0 0 * 18 in
+        let e : suc (suc (suc p)) ≡ k + (suc (suc (suc p)) - k) = omega arith in
+        rw e
+        (sym (getD-drop k words (suc (suc (suc p)) - k) 0)
+        ∙ eqb-true _ 0 (every-at (λ w. eqb w 0) (drop k words) (suc (suc (suc p)) - k) 0 clear (omega (arith, length-drop k words))))
+
+    word-same : (i : ℕ) → i < 579 → getD words i 0 ≡ getD (laid (stateOf words)) i 0
+    unfolding laid n-rows said stateOf
+    word-same zero h = sym said-length
+    word-same (suc zero) h = refl
+    word-same (suc (suc zero)) h = refl
+    word-same (suc (suc (suc p))) h =
+        elim (decLt p (n-rows * 18)) [
+          | yes q ↦ let e : suc (suc (suc p)) ≡ p / 18 * 18 + (3 + p % 18) = omega arith in
+              rw e (in-row (p / 18) (p % 18) (omega arith) (omega arith))
+          | no q ↦ clear-at p (omega arith) (omega arith) ∙ sym (past-rows p (omega arith) (omega arith))
+        ]
+
+    -- well-formed words are the words of the state that they say
+    pub saved-laid : words ≡ laid (stateOf words)
+    unfolding said n-rows
+    saved-laid =
+        ext-getD 0 words (laid (stateOf words)) (long ∙ sym (laid-length (stateOf words) (omega (arith, said-length))))
+        (λ i h. word-same i (omega arith))

@@ -1,0 +1,16 @@
+pub mod Tests
+pub mod Ceil
+pub mod Pattern
+pub mod Bits
+pub mod Book
+pub mod Question
+pub mod First
+pub mod Sums
+pub mod Table
+pub mod Fill
+pub mod Verdict
+pub mod Window
+pub mod Laid
+pub mod Sound
+pub mod Ticks
+pub mod Examples

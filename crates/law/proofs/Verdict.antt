@@ -1,0 +1,138 @@
+-- The verdict: loads grow with t, so a search may leap from t to the load at t; loads stay far below 64 bits; and the verdict by its cases.
+use mathlib.Core.Bool.{Bool, true, false, not}
+use mathlib.Core.List.{List, [], _∷_, _++_}
+use mathlib.Core.Path.{_≡_, refl, sym, ap, _∙_}
+use Prim.Native.Nat.{ℕ, zero, suc, _+_, _-_, _*_, _/_, _≤_, _<_}
+use native.Mathlib.Decide.{decLt}
+use native.Mathlib.Nat.{mul-le-mul-left, mul-le-mul, add-suc, suc-mul, mul-one}
+use native.Mathlib.Omega.{arith}
+use lib.Dec.{leb, ltb, eqb}
+use lib.ListN.{length, getD, drop}
+use borrow.Author.Tests.{le-leb, lt-leb, leb-true, leb-false, eq-eqb, ne-eqb}
+use Rattle.law.specs.Sums.{bit, ceil, sum, firstFrom, first}
+use Rattle.law.specs.Refusal.{Answer, accepted, refused, orRefused, after, lent}
+use Rattle.law.specs.Pattern.{IsPattern, mandatory, count}
+use Rattle.law.specs.Table.{Task, row, kindOf, countOf, Ranged, WellFormed, tableOf, checked}
+use Rattle.law.specs.Verdict.{demand, load, fitsAt, response, fits, misfit, admitted, responses, verdict, verdictRoom}
+use Rattle.law.proofs.Ceil.{ceil-mono, ceil-least}
+use Rattle.law.proofs.Pattern.{even, counted-mono}
+use Rattle.law.proofs.First.{first-is, first-high}
+use Rattle.law.proofs.Sums.{sum-mono}
+
+-- the pattern of a row keeps the laws of a pattern: the one place that knows which pattern it is
+pub pattern-of : {r : Task} → Ranged r → IsPattern (r .m) (r .k) (kindOf r) (countOf r)
+unfolding kindOf countOf
+pattern-of {r} h = even (r .m) (r .k) (h .pair .m-low) (h .pair .m-high)
+
+-- among q jobs there are at most q mandatory ones
+pub counted-most : {m k : ℕ} {kind : ℕ → Bool} {counted : ℕ → ℕ} → IsPattern m k kind counted → (q : ℕ) → counted q ≤ q
+counted-most p zero = omega (arith, p .none)
+counted-most {kind = kind} p (suc q) = omega (arith, p .step q, counted-most p q, small (kind q))
+  where
+    small : (b : Bool) → bit b ≤ 1
+    small true = omega arith
+    small false = omega arith
+
+module _ (r : Task) (h : Ranged r) where
+  pub demand-mono : (s t : ℕ) → s ≤ t → demand r s ≤ demand r t
+  unfolding demand
+  demand-mono s t l =
+      let q = ceil s (r .t) in
+      let more = ceil-mono s t (r .t) (h .t-low) l in
+      let e : q + (ceil t (r .t) - q) ≡ ceil t (r .t) = omega arith in
+      mul-le-mul-left (r .c) (rw e at (counted-mono (pattern-of h) q (ceil t (r .t) - q)))
+
+  -- by t at most t jobs are released
+  jobs-few : (t : ℕ) → countOf r (ceil t (r .t)) ≤ t
+  jobs-few t =
+      omega (arith, counted-most (pattern-of h) (ceil t (r .t)), ceil-least t (r .t) t (h .t-low) (omega (arith, mul-le-mul-left t (h .t-low), mul-one t)))
+
+  pub demand-small : (t : ℕ) → t ≤ 65535 → demand r t ≤ 65535 * 65535
+  unfolding demand
+  demand-small t l =
+      mul-le-mul {n₁ = r .c} {m₁ = countOf r (ceil t (r .t))} {n₂ = 65535} {m₂ = 65535} (h .c-high) (omega (arith, jobs-few t))
+
+module _ (tasks : List Task) (w : WellFormed tasks) (i : ℕ) (h : i < length tasks) where
+  pub load-mono : (s t : ℕ) → s ≤ t → load tasks i s ≤ load tasks i t
+  unfolding load
+  load-mono s t l =
+      omega (arith, sum-mono (λ j. demand (row tasks j) s) (λ j. demand (row tasks j) t) i (λ j q. demand-mono (row tasks j) (w .ranged j (omega arith)) s t l))
+
+  -- where the load at t is above t, no tick from t up to it fits
+  pub no-fit-before-load : (t s : ℕ) → t ≤ s → s < load tasks i t → fitsAt tasks i s ≡ false
+  unfolding fitsAt
+  no-fit-before-load t s l k = lt-leb _ s (omega (arith, load-mono t s l))
+
+-- what a search that has come to t knows: no tick before t fits
+pub record Sought (tasks : List Task) (i t : ℕ) : Type 0 where
+  pub started : 1 ≤ t
+  pub before : (s : ℕ) → 1 ≤ s → s < t → fitsAt tasks i s ≡ false
+
+pub sought-start : (tasks : List Task) (i : ℕ) → Sought tasks i 1
+sought-start tasks i = record { started = omega arith; before = λ s l k. absurd (omega arith) }
+
+pub sought-fits : (tasks : List Task) (i t : ℕ) → Sought tasks i t → t ≤ row tasks i .d → load tasks i t ≤ t → response tasks i ≡ t
+unfolding response fitsAt
+sought-fits tasks i t s l f =
+    first-is (fitsAt tasks i) 1 (row tasks i .d) t (s .started) (omega arith) (λ q. le-leb _ t f) (s .before)
+
+pub sought-never : (tasks : List Task) (i t : ℕ) → Sought tasks i t → row tasks i .d < t → response tasks i ≡ 1 + row tasks i .d
+unfolding response
+sought-never tasks i t s l =
+    first-is (fitsAt tasks i) 1 (row tasks i .d) (1 + row tasks i .d) (omega arith) (omega arith) (λ q. absurd (omega arith)) (λ j a b. s .before j a (omega arith))
+
+pub sought-leap : (tasks : List Task) → WellFormed tasks → (i : ℕ) → i < length tasks → (t : ℕ) → Sought tasks i t → t < load tasks i t
+    → Sought tasks i (load tasks i t)
+sought-leap tasks w i h t s l =
+    record {
+      started = omega (arith, s .started);
+      before = λ u a b. elim (decLt u t) [
+        | yes q ↦ s .before u a q
+        | no q ↦ no-fit-before-load tasks w i h t u (omega arith) b
+      ];
+    }
+
+-- a row fits when its response time is at most D
+pub fits-yes : (tasks : List Task) (i : ℕ) → response tasks i ≤ row tasks i .d → fits tasks i ≡ true
+unfolding fits
+fits-yes tasks i h = le-leb _ _ h
+
+pub fits-no : (tasks : List Task) (i : ℕ) → row tasks i .d < response tasks i → fits tasks i ≡ false
+unfolding fits
+fits-no tasks i h = lt-leb _ _ h
+
+pub misfit-most : (tasks : List Task) → misfit tasks ≤ length tasks
+unfolding misfit
+misfit-most tasks = omega (arith, first-high (λ i. not (fits tasks i)) 0 (length tasks))
+
+-- the verdict by its cases; the words were checked before
+module _ (words : List ℕ) (room : List ℕ) where
+  pub verdict-unchecked : (n : ℕ) (also : List ℕ) → checked words ≡ refused n also
+      → (verdict words (length room) ≡ refused n also) × (verdictRoom words room ≡ room)
+  unfolding verdict verdictRoom
+  verdict-unchecked n also e = (rw e, rw e)
+
+  module _ (vs : List ℕ) (good : checked words ≡ accepted vs) where
+    pub verdict-short : length room < length (tableOf words)
+        → (verdict words (length room) ≡ refused 13 []) × (verdictRoom words room ≡ room)
+    unfolding verdict verdictRoom
+    verdict-short h =
+        let e = lt-leb (length (tableOf words)) (length room) h in
+        (rw (good, e), rw (good, e))
+
+    pub verdict-late : length (tableOf words) ≤ length room → misfit (tableOf words) < length (tableOf words)
+        → (verdict words (length room) ≡ refused 11 (misfit (tableOf words) ∷ [])) × (verdictRoom words room ≡ room)
+    unfolding verdict verdictRoom admitted
+    verdict-late h l =
+        let e = le-leb (length (tableOf words)) (length room) h in
+        let f = ne-eqb (misfit (tableOf words)) (length (tableOf words)) (λ (q : misfit (tableOf words) ≡ length (tableOf words)). omega arith) in
+        (rw (good, e, f), rw (good, e, f))
+
+    pub verdict-admitted : length (tableOf words) ≤ length room → misfit (tableOf words) ≡ length (tableOf words)
+        → (verdict words (length room) ≡ accepted (length (tableOf words) ∷ []))
+        × (verdictRoom words room ≡ responses (tableOf words) ++ drop (length (tableOf words)) room)
+    unfolding verdict verdictRoom admitted
+    verdict-admitted h l =
+        let e = le-leb (length (tableOf words)) (length room) h in
+        let f = eq-eqb (misfit (tableOf words)) (length (tableOf words)) l in
+        (rw (good, e, f), rw (good, e, f))

@@ -1,0 +1,73 @@
+-- A window as a machine word: its marks are the word's set bits, and a shift with a cut is the law's.
+use mathlib.Core.Bool.{Bool, true, false}
+use mathlib.Core.Path.{_≡_, refl, sym, ap, _∙_}
+use Prim.Native.Nat.{ℕ, zero, suc, _+_, _-_, _*_, _/_, _%_, _^_, _≤_, _<_}
+use native.Mathlib.Nat.{add-comm, mul-comm, mod-lt, mod-eq-of-lt, mod-add-mod, mul-div-cancel, mul-mod-left, zero-add, add-zero}
+use native.Mathlib.Numerals.{one-add}
+use native.Mathlib.Omega.{arith}
+use lib.Arith.{mod-mul, lt-one}
+use lib.Bits.{bitAnd, bitOr, or-shifted, and-mask}
+use lib.Count.{ones, ones-cat}
+use lib.Dec.{eqb}
+use lib.Pow.{pow-pos, high, ones-lt, ones-split, mod-pow-add, mod-mod-pow}
+use Rattle.law.specs.Sums.{bit, among}
+use Rattle.law.specs.Tick.{shifted, marks}
+
+two : zero < 2
+two = omega arith
+
+marked : ℕ → ℕ → Bool
+marked window b = eqb (window / 2 ^ b % 2) 1
+
+ones-bit : (a : ℕ) → a < 2 → ones a ≡ bit (eqb a 1)
+unfolding ones
+ones-bit zero h = refl
+ones-bit (suc zero) h = refl
+ones-bit (suc (suc a)) h = absurd (omega arith)
+
+ones-low : (window k : ℕ) → ones (window % 2 ^ k) ≡ among (marked window) 0 k
+unfolding among marked ones
+ones-low window zero = ap ones (lt-one (mod-lt window (pow-pos 0)))
+ones-low window (suc k) =
+    let b = window / 2 ^ k % 2 in
+    ap (λ (z : ℕ). ones (window % 2 ^ z)) (sym (one-add k)) ∙ ap ones (mod-pow-add window 1 k)
+    ∙ ones-cat k b (window % 2 ^ k) (mod-lt window (pow-pos k))
+    ∙ omega (arith, ones-bit b (mod-lt (window / 2 ^ k) two), ones-low window k, ap (λ (z : ℕ). bit (marked window z)) (zero-add k))
+
+pub shifted-low : (k window mark : ℕ) → shifted k window mark < 2 ^ k
+unfolding shifted
+shifted-low k window mark = mod-lt (2 * window + mark) (pow-pos k)
+
+-- the met marks of a window are its set bits
+pub marks-are-ones : (k window : ℕ) → window < 2 ^ k → ones window ≡ marks k window
+unfolding marks marked
+marks-are-ones k window h = ap ones (sym (mod-eq-of-lt h)) ∙ ones-low window k
+
+-- the word of k set bits, cut out of the whole word
+pub cut-is : (k : ℕ) → k ≤ 64 → (2 ^ 64 - 1) / 2 ^ (64 - k) ≡ 2 ^ k - 1
+cut-is k h =
+    let e : k + (64 - k) ≡ 64 = omega arith in
+    ap (λ (z : ℕ). (2 ^ z - 1) / 2 ^ (64 - k)) (sym e) ∙ ap (λ (z : ℕ). z / 2 ^ (64 - k)) (ones-split k (64 - k))
+    ∙ high (2 ^ k - 1) (64 - k) (ones-lt (64 - k))
+
+-- a shifted word is even
+even-is : (window : ℕ) → window * 2 % 2 ^ 64 ≡ window % 2 ^ 63 * 2 ^ 1
+even-is window =
+    mod-mul (window * 2) {m = 2 ^ 63} {c = 2} (pow-pos 63) two
+    ∙ omega (arith, ap (λ (z : ℕ). z % 2 ^ 63 * 2) (mul-div-cancel window two), mul-mod-left window 2)
+
+pub shift-is : (k window mark : ℕ) → k ≤ 64 → mark ≤ 1
+    → bitAnd (bitOr (window * 2 % 2 ^ 64) mark) ((2 ^ 64 - 1) / 2 ^ (64 - k)) ≡ shifted k window mark
+unfolding shifted
+shift-is k window mark h l =
+    let x = window * 2 in
+    let e : (64 - k) + k ≡ 64 = omega arith in
+    ap (λ (z : ℕ). bitAnd (bitOr (x % 2 ^ 64) mark) z) (cut-is k h) ∙ and-mask (bitOr (x % 2 ^ 64) mark) k
+    ∙ ap (λ (z : ℕ). bitOr z mark % 2 ^ k) (even-is window)
+    ∙ ap (λ (z : ℕ). z % 2 ^ k) (or-shifted (window % 2 ^ 63) 1 mark (omega arith))
+    ∙ ap (λ (z : ℕ). (z + mark) % 2 ^ k) (sym (even-is window))
+    ∙ sym (mod-add-mod (x % 2 ^ 64) (2 ^ k) mark)
+    ∙ ap (λ (z : ℕ). (x % 2 ^ z % 2 ^ k + mark) % 2 ^ k) (sym e)
+    ∙ ap (λ (z : ℕ). (z + mark) % 2 ^ k) (mod-mod-pow x (64 - k) k)
+    ∙ mod-add-mod x (2 ^ k) mark
+    ∙ ap (λ (z : ℕ). (z + mark) % 2 ^ k) (mul-comm window 2)

@@ -1,0 +1,9 @@
+pub mod Sums
+pub mod Refusal
+pub mod Pattern
+pub mod Table
+pub mod Verdict
+pub mod Tick
+pub mod State
+pub mod Sound
+pub mod Promise

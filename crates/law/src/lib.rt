@@ -1,0 +1,2 @@
+// The law: what document 01 says, as definitions. They stand in specs/, one file a chapter; the laws about them in proofs/.
+// There is no code here: the crates above are measured against these definitions.

@@ -1,0 +1,8 @@
+-- The one answer convention of the exported functions.
+use Rattle.law.specs.Refusal.{codeOf, valueOf}
+use Rattle.law.specs.Refusal as law
+use Rattle.stand_c.specs.declared.Answer.{Answer}
+
+-- 0 and the answer's value, or the refusal's number in document 01 and its row or place, 0 where there is none
+abbrev pub numbered : law.Answer → Answer
+numbered a = record { refusal = codeOf a; value = valueOf a }

@@ -1,0 +1,91 @@
+// The functions that a firmware, or a test in C or Rust, calls: numbers, lent words and lent bytes, and one answer convention.
+ghost use mathlib.Core.Path.{_≡_};
+ghost use lib.ListN.{length};
+ghost use Rattle.law.specs.Pattern.{question, pairWord};
+ghost use Rattle.law.specs.Table.{checked};
+ghost use Rattle.law.specs.Verdict.{verdict as verdictLaw, verdictRoom};
+ghost use Rattle.refusal.specs.Shown.{shown};
+ghost use Rattle.stand_c.specs.Numbered.{numbered};
+use book::Job;
+use book::Word;
+use refusal::Refusal;
+use table::Checked;
+use verdict::Verdict;
+
+// Every answer: `refusal` is 0 and `value` the answer's value, or `refusal` is the number that document 01 gives the
+// refusal and `value` the row or the place that goes with it, 0 where there is none.
+#[repr(C)]
+pub struct Answer {
+    pub refusal: u64,
+    pub value: u64,
+}
+
+fn refused(r: Refusal) -> Answer
+    ensures { λ a. ⌜ a ≡ numbered (shown r) ⌝ }
+{
+    Answer {
+        refusal: refusal::number(r),
+        value: refusal::also(r),
+    }
+}
+
+// Whether job number `job` of a task with m out of k is mandatory: 1, or 0 for optional.
+#[no_mangle]
+pub extern "C" fn gp_job(m: u32, k: u32, job: u32) -> Answer
+    ensures { λ a. ⌜ a ≡ numbered (question m k job) ⌝ }
+{
+    match book::ask(m, k, job) {
+        Job::Mandatory => Answer {
+            refusal: 0,
+            value: 1,
+        },
+        Job::Optional => Answer {
+            refusal: 0,
+            value: 0,
+        },
+        Job::Refused(r) => refused(r),
+    }
+}
+
+// The pattern word of a pair.
+#[no_mangle]
+pub extern "C" fn gp_word(m: u32, k: u32) -> Answer
+    ensures { λ a. ⌜ a ≡ numbered (pairWord m k) ⌝ }
+{
+    match book::word_of(m, k) {
+        Word::Is(word) => Answer {
+            refusal: 0,
+            value: word,
+        },
+        Word::Refused(r) => refused(r),
+    }
+}
+
+// Whether a lent run of words is a task table: its number of rows.
+#[no_mangle]
+pub extern "C" fn gp_check(words: &[u32]) -> Answer
+    ensures { λ a. ⌜ a ≡ numbered (checked (now (words .entry))) ⌝ }
+{
+    match table::check(words) {
+        Checked::Rows(rows) => Answer {
+            refusal: 0,
+            value: rows as u64,
+        },
+        Checked::Refused(r) => refused(r),
+    }
+}
+
+// The verdict on a table: its number of rows, and its response times in the first words of the room.
+#[no_mangle]
+pub extern "C" fn gp_verdict(words: &[u32], room: &mut [u32]) -> Answer
+    ensures answer { λ a. ⌜ a ≡ numbered (verdictLaw (now (words .entry)) (length (now (room .entry)))) ⌝ }
+    ensures room { λ a. ⌜ now (room .exit) ≡ verdictRoom (now (words .entry)) (now (room .entry)) ⌝ }
+{
+    match verdict::judge(words, room) {
+        Verdict::Admitted(rows) => Answer {
+            refusal: 0,
+            value: rows as u64,
+        },
+        Verdict::Refused(r) => refused(r),
+    }
+}

@@ -1,0 +1,10 @@
+pub mod Queue
+pub mod Rows
+pub mod Clock
+pub mod Fits
+pub mod Trace
+pub mod Life
+pub mod Bound
+pub mod Marks
+pub mod Tallies
+pub mod Demand

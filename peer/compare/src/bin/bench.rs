@@ -1,0 +1,164 @@
+//! Times both programs on the same inputs, in turns, within one run. Each line
+//! has the median of the rounds; the ratio is the first program's time divided
+//! by the second's. Status 1 if they do not answer alike.
+//!
+//! The second program's job question is called, not inlined, so that both pay
+//! for one call.
+
+use std::hint::black_box;
+use std::process::ExitCode;
+use std::time::Instant;
+
+use compare::draw::{full_table, Shape};
+use compare::ffi;
+use peer::answer::Answer;
+use peer::pattern;
+use peer::rng::Rng;
+use peer::table::ROWS_MAX;
+use peer::verdict::{verdict, verdict_leaping};
+
+const SEED: u64 = 1;
+
+/// Rounds that are timed, an odd number so that there is a middle one.
+const ROUNDS: usize = 11;
+
+/// A timed stretch is repeated until it lasts about so long.
+const STRETCH_NS: f64 = 20e6;
+
+/// Questions about one job in a stretch.
+const QUESTIONS: usize = 1 << 14;
+
+/// Tables of each shape.
+const TABLES: usize = 8;
+
+type Verdict = fn(&[u32], &mut [u32]) -> Answer;
+
+fn main() -> ExitCode {
+    let mut rng = Rng::new(SEED);
+    let mut alike = jobs(&mut rng);
+    for rows in [4, 16, 32] {
+        for d_max in [2_000, 65_535] {
+            alike &= verdicts(&mut rng, rows, d_max);
+        }
+    }
+    match alike {
+        true => ExitCode::SUCCESS,
+        false => ExitCode::FAILURE,
+    }
+}
+
+/// Nanoseconds that one call of `work` takes, over so many.
+fn timed(passes: usize, work: &mut dyn FnMut()) -> f64 {
+    let began = Instant::now();
+    for _ in 0..passes {
+        work();
+    }
+    began.elapsed().as_nanos() as f64 / passes as f64
+}
+
+/// How many calls make a stretch.
+fn passes(work: &mut dyn FnMut()) -> usize {
+    let once = timed(1, work).min(timed(1, work)).max(1.0);
+    (STRETCH_NS / once).ceil() as usize
+}
+
+fn median(mut times: Vec<f64>) -> f64 {
+    times.sort_by(f64::total_cmp);
+    times[times.len() / 2]
+}
+
+/// Times both in turns, the one that goes first changing from round to round,
+/// and prints the line; `size` answers come out of one call.
+fn line(name: &str, size: usize, ours: &mut dyn FnMut(), peer: &mut dyn FnMut()) {
+    let (our_passes, peer_passes) = (passes(ours), passes(peer));
+    let (mut our_times, mut peer_times) = (Vec::new(), Vec::new());
+    for round in 0..ROUNDS {
+        if round % 2 == 0 {
+            our_times.push(timed(our_passes, ours));
+        }
+        peer_times.push(timed(peer_passes, peer));
+        if round % 2 == 1 {
+            our_times.push(timed(our_passes, ours));
+        }
+    }
+    let (ours, peer) = (median(our_times), median(peer_times));
+    let (each, peer_each) = (ours / size as f64, peer / size as f64);
+    let ratio = ours / peer;
+    let digits = if ratio < 0.1 { 6 } else { 3 };
+    println!("bench {name} ours {each:.1} ns peer {peer_each:.1} ns ratio {ratio:.digits$}");
+}
+
+#[inline(never)]
+fn peer_job(m: u32, k: u32, job: u32) -> Answer {
+    pattern::job(m, k, job)
+}
+
+/// The question about one job, every pair alike and any job number.
+fn jobs(rng: &mut Rng) -> bool {
+    let draw = |_| {
+        let k = rng.word(1, 64);
+        (rng.word(1, k), k, rng.word(0, u32::MAX))
+    };
+    let questions: Vec<(u32, u32, u32)> = (0..QUESTIONS).map(draw).collect();
+    for &(m, k, job) in &questions {
+        let (ours, peer) = (ffi::job(m, k, job), peer_job(m, k, job));
+        if ours != peer {
+            println!("bench job m {m} k {k} job {job} ours {ours:?} peer {peer:?}");
+            return false;
+        }
+    }
+    let (mut ours, mut peer) = (|| ask(&questions, ffi::job), || ask(&questions, peer_job));
+    line("job", QUESTIONS, &mut ours, &mut peer);
+    true
+}
+
+/// A copy for each of the programs, so that neither is called by a pointer.
+fn ask(questions: &[(u32, u32, u32)], one: impl Fn(u32, u32, u32) -> Answer) {
+    for &(m, k, job) in black_box(questions) {
+        black_box(one(m, k, job));
+    }
+}
+
+/// Tables admitted with no unit of work to spare, no deadline above `d_max`.
+fn tables(rng: &mut Rng, rows: usize, d_max: u32) -> Vec<Vec<u32>> {
+    let shape = Shape {
+        rows,
+        t_low: d_max / 10,
+        t_high: d_max,
+    };
+    let table = |_| full_table(rng, shape);
+    (0..TABLES).map(table).collect()
+}
+
+/// The answer and the room of one verdict.
+fn answered(judge: Verdict, words: &[u32]) -> (Answer, [u32; ROWS_MAX]) {
+    let mut room = [0; ROWS_MAX];
+    (judge(words, &mut room), room)
+}
+
+/// The verdict, against the second program's leaps and against its walk.
+fn verdicts(rng: &mut Rng, rows: usize, d_max: u32) -> bool {
+    let tables = tables(rng, rows, d_max);
+    let peers: [(&str, Verdict); 2] = [("leaping", verdict_leaping), ("walking", verdict)];
+    for words in &tables {
+        let ours = answered(ffi::verdict, words);
+        for (name, judge) in peers {
+            let peer = answered(judge, words);
+            if ours != peer || !ours.0.is_accepted() {
+                println!("bench verdict {words:?} ours {ours:?} peer {name} {peer:?}");
+                return false;
+            }
+        }
+    }
+    let judge = |judge: Verdict| {
+        for words in black_box(&tables) {
+            black_box(answered(judge, words));
+        }
+    };
+    for (name, peer) in peers {
+        let name = format!("verdict_{rows}_rows_d_{d_max}_{name}");
+        let (mut ours, mut peer) = (|| judge(ffi::verdict), || judge(peer));
+        line(&name, TABLES, &mut ours, &mut peer);
+    }
+    true
+}

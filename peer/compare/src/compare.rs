@@ -1,0 +1,33 @@
+//! The comparisons, part by part.
+
+mod pattern;
+mod table;
+mod verdict;
+
+use crate::course::{Compared, Course, Difference};
+
+pub struct Comparison {
+    pub name: &'static str,
+    /// Whether another seed brings other cases; if not, once is enough.
+    pub drawn: bool,
+    /// The refusal numbers that its cases must bring about, 0 for accepted.
+    pub due: &'static [u64],
+    pub run: fn(&mut Course) -> Compared,
+}
+
+impl Comparison {
+    /// Runs every case that the seed brings.
+    pub fn course(&self, seed: u64) -> Result<Course, Difference> {
+        let mut course = Course::new(seed, self.name);
+        (self.run)(&mut course)?;
+        course.reached(self.due)?;
+        Ok(course)
+    }
+}
+
+/// Every comparison, in the order in which they run.
+pub fn all() -> impl Iterator<Item = &'static Comparison> {
+    [pattern::ALL, table::ALL, verdict::ALL]
+        .into_iter()
+        .flatten()
+}

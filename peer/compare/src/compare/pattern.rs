@@ -1,0 +1,166 @@
+//! "Patterns": the words of the book, and the question about one job.
+
+use peer::answer::Answer;
+use peer::gen::job_question;
+use peer::pattern::{self, K_MAX, PAIRS};
+
+use super::Comparison;
+use crate::course::{shown, Compared, Course, Difference};
+use crate::draw::{any_word, EDGES};
+use crate::ffi;
+
+pub const ALL: &[Comparison] = &[
+    Comparison {
+        name: "pattern_words",
+        drawn: false,
+        due: &[0],
+        run: words,
+    },
+    Comparison {
+        name: "pattern_words_edges",
+        drawn: true,
+        due: &[0, 8, 9],
+        run: words_edges,
+    },
+    Comparison {
+        name: "pattern_jobs_first",
+        drawn: false,
+        due: &[0],
+        run: jobs_first,
+    },
+    Comparison {
+        name: "pattern_jobs_cycles",
+        drawn: true,
+        due: &[0],
+        run: jobs_cycles,
+    },
+    Comparison {
+        name: "pattern_jobs_edges",
+        drawn: false,
+        due: &[0, 8, 9],
+        run: jobs_edges,
+    },
+    Comparison {
+        name: "pattern_jobs_drawn",
+        drawn: true,
+        due: &[0, 8, 9],
+        run: jobs_drawn,
+    },
+];
+
+/// Jobs asked about for every pair: three times round the longest pattern.
+const FIRST_JOBS: u32 = 200;
+
+/// Questions drawn freely.
+const DRAWN_JOBS: u32 = 6_000_000;
+
+/// Pairs of words drawn freely.
+const DRAWN_PAIRS: u32 = 1_000_000;
+
+/// "k 1..64; m 1..k"
+fn pairs() -> impl Iterator<Item = (u32, u32)> {
+    (1..=K_MAX).flat_map(|k| (1..=k).map(move |m| (m, k)))
+}
+
+/// Both programs' words of a pair. The refusals are those of a question about
+/// one job, which a pair outside its range has for every job alike.
+fn same_word(course: &mut Course, m: u32, k: u32) -> Compared {
+    let first = ffi::word(m, k);
+    let asked = pattern::job(m, k, 0);
+    let peer = match asked.is_accepted() {
+        true => Answer::accepted(pattern::word(m, k)),
+        false => asked,
+    };
+    course.settle(peer, first == peer, || {
+        let (first, peer) = (shown(first), shown(peer));
+        format!("word of m {m} k {k}\nfirst {first}\npeer  {peer}")
+    })
+}
+
+fn same_job(course: &mut Course, m: u32, k: u32, job: u32) -> Compared {
+    let (first, peer) = (ffi::job(m, k, job), pattern::job(m, k, job));
+    course.settle(peer, first == peer, || {
+        let (first, peer) = (shown(first), shown(peer));
+        format!("job {job} of m {m} k {k}\nfirst {first}\npeer  {peer}")
+    })
+}
+
+/// "one 64-bit word for each pair (m,k), 2,080 words in all"
+fn words(course: &mut Course) -> Compared {
+    for (m, k) in pairs() {
+        same_word(course, m, k)?;
+    }
+    if course.cases() == PAIRS as u64 {
+        return Ok(());
+    }
+    Err(Difference(format!("{} words", course.cases())))
+}
+
+/// Every pair of small words, of edges, and pairs drawn freely.
+fn words_edges(course: &mut Course) -> Compared {
+    for k in 0..=2 * K_MAX + 2 {
+        for m in 0..=2 * K_MAX + 2 {
+            same_word(course, m, k)?;
+        }
+    }
+    for k in EDGES {
+        for m in EDGES {
+            same_word(course, m, k)?;
+        }
+    }
+    for _ in 0..DRAWN_PAIRS {
+        let (m, k) = (any_word(&mut course.rng), any_word(&mut course.rng));
+        same_word(course, m, k)?;
+    }
+    Ok(())
+}
+
+/// The first jobs of every pair, all of them.
+fn jobs_first(course: &mut Course) -> Compared {
+    for (m, k) in pairs() {
+        for job in 0..=FIRST_JOBS {
+            same_job(course, m, k, job)?;
+        }
+    }
+    Ok(())
+}
+
+/// Around the start of cycles, the first and the last among them, and the last
+/// jobs there are, for every pair.
+fn jobs_cycles(course: &mut Course) -> Compared {
+    for (m, k) in pairs() {
+        let last = u32::MAX / k;
+        let mut cycles = vec![1, 2, 3, last / 2, last - 1, last];
+        cycles.extend(EDGES.iter().filter(|&&edge| edge <= last));
+        cycles.extend((0..16).map(|_| course.rng.word(0, last)));
+        for start in cycles.into_iter().map(|cycle| cycle * k) {
+            for step in 0..=4 {
+                same_job(course, m, k, start.wrapping_add(step).wrapping_sub(2))?;
+            }
+        }
+        for back in 0..=k {
+            same_job(course, m, k, u32::MAX - back)?;
+        }
+    }
+    Ok(())
+}
+
+/// Pairs at every edge, most of them out of range, with jobs at every edge.
+fn jobs_edges(course: &mut Course) -> Compared {
+    for k in EDGES {
+        for m in EDGES {
+            for job in EDGES {
+                same_job(course, m, k, job)?;
+            }
+        }
+    }
+    Ok(())
+}
+
+fn jobs_drawn(course: &mut Course) -> Compared {
+    for _ in 0..DRAWN_JOBS {
+        let (m, k, job) = job_question(&mut course.rng);
+        same_job(course, m, k, job)?;
+    }
+    Ok(())
+}

@@ -1,0 +1,217 @@
+//! "Verdict": admitted or not, and the response times in the lent room.
+//!
+//! The judge is the second program's walk over every tick, never its leaps.
+
+use peer::gen::{boundary_table, loaded_table, table, tiny_table, wide_table};
+use peer::table::{ROWS_MAX, ROW_WORDS};
+use peer::verdict::verdict;
+
+use super::Comparison;
+use crate::course::{shown, Compared, Course};
+use crate::draw::{full_table, limit_pair, room, room_of, slow_table, sound, LimitPair, Shape};
+use crate::ffi;
+use crate::lent::Lent;
+
+pub const ALL: &[Comparison] = &[
+    Comparison {
+        name: "verdict_rooms",
+        drawn: true,
+        due: &[0, 11, 13],
+        run: rooms,
+    },
+    Comparison {
+        name: "verdict_small",
+        drawn: false,
+        due: &[0, 11],
+        run: small,
+    },
+    Comparison {
+        name: "verdict_drawn",
+        drawn: true,
+        due: &[0, 11, 13],
+        run: drawn,
+    },
+    Comparison {
+        name: "verdict_limit",
+        drawn: true,
+        due: &[0, 11, 13],
+        run: limit,
+    },
+    Comparison {
+        name: "verdict_slow",
+        drawn: true,
+        due: &[0, 11, 13],
+        run: slow,
+    },
+    Comparison {
+        name: "verdict_large",
+        drawn: true,
+        due: &[0, 11, 13],
+        run: large,
+    },
+];
+
+/// Tables drawn with periods of up to a thousand ticks.
+const DRAWN: u32 = 300_000;
+
+/// Pairs on both sides of the limit, with periods of up to a few thousand.
+const LIMITS: u32 = 20_000;
+
+/// Tables whose search takes many steps.
+const SLOW: u32 = 4_000;
+
+/// Rounds of tables with periods of up to 65,535 ticks, five tables to a round.
+const LARGE: u32 = 4_000;
+
+/// Both verdicts, and every word that was lent for them.
+pub fn same_verdict(course: &mut Course, words: &[u32], room: &[u32]) -> Compared {
+    let mut lent_words = Lent::new(&mut course.rng, words);
+    let mut lent_room = Lent::new(&mut course.rng, room);
+    let first = ffi::verdict_lent(&mut lent_words, &mut lent_room);
+    let mut filled = room.to_vec();
+    let peer = verdict(words, &mut filled);
+    let same = first == peer && lent_words.holds(words) && lent_room.holds(&filled);
+    course.settle(peer, same, || {
+        format!(
+            "verdict on {words:?}\nroom before {room:?}\n\
+             first {} room {:?}\npeer  {} room {filled:?}\n\
+             altered beside the room {:?}\n\
+             table after {:?}\naltered beside the table {:?}",
+            shown(first),
+            lent_room.words(),
+            shown(peer),
+            lent_room.altered_beside(),
+            lent_words.words(),
+            lent_words.altered_beside(),
+        )
+    })
+}
+
+/// The verdict into a drawn room.
+fn same_drawn(course: &mut Course, words: &[u32]) -> Compared {
+    let room = room(&mut course.rng, words.len() / ROW_WORDS);
+    same_verdict(course, words, &room)
+}
+
+/// Every length of room around the one needed, for every number of rows.
+fn rooms(course: &mut Course) -> Compared {
+    for rows in 1..=ROWS_MAX {
+        let shape = Shape {
+            rows,
+            t_low: 4 * ROWS_MAX as u32,
+            t_high: 400,
+        };
+        let LimitPair { within, past } = limit_pair(&mut course.rng, shape);
+        for words in [within, past, sound(&mut course.rng, rows, 100)] {
+            for length in (0..=rows + 4).chain([2 * ROWS_MAX]) {
+                let room = room_of(&mut course.rng, length);
+                same_verdict(course, &words, &room)?;
+            }
+        }
+    }
+    Ok(())
+}
+
+/// Every row with T up to `t_max`, k up to `k_max` and C up to one past D.
+fn small_rows(t_max: u32, k_max: u32) -> Vec<[u32; 5]> {
+    let mut rows = Vec::new();
+    for (t, k) in (1..=t_max).flat_map(|t| (1..=k_max).map(move |k| (t, k))) {
+        for (d, m) in (1..=t).flat_map(|d| (1..=k).map(move |m| (d, m))) {
+            rows.extend((1..=d + 1).map(|c| [c, t, d, m, k]));
+        }
+    }
+    rows
+}
+
+/// A table of these rows, with their numbers for ids.
+fn small_table(rows: &[[u32; 5]]) -> Vec<u32> {
+    let row = |(at, row): (usize, &[u32; 5])| [&[at as u32 + 1], &row[..]].concat();
+    rows.iter().enumerate().flat_map(row).collect()
+}
+
+/// All small tables of one, two and three rows.
+fn small(course: &mut Course) -> Compared {
+    for row in small_rows(12, 6) {
+        same_drawn(course, &small_table(&[row]))?;
+    }
+    let rows = small_rows(5, 4);
+    for (&a, &b) in rows.iter().flat_map(|a| rows.iter().map(move |b| (a, b))) {
+        same_drawn(course, &small_table(&[a, b]))?;
+    }
+    let rows = small_rows(3, 2);
+    for (&a, &b) in rows.iter().flat_map(|a| rows.iter().map(move |b| (a, b))) {
+        for &c in &rows {
+            same_drawn(course, &small_table(&[a, b, c]))?;
+        }
+    }
+    Ok(())
+}
+
+/// Tables near full load, tiny ones, and ones of any number of rows.
+fn drawn(course: &mut Course) -> Compared {
+    for _ in 0..DRAWN {
+        let rng = &mut course.rng;
+        let words = match rng.below(8) {
+            0..=5 => loaded_table(rng),
+            6 => tiny_table(rng),
+            _ => {
+                let rows = 1 + rng.index(ROWS_MAX);
+                sound(rng, rows, 1_000)
+            }
+        };
+        same_drawn(course, &words)?;
+    }
+    Ok(())
+}
+
+/// Tables that one unit of work more makes unschedulable, and those with it.
+fn limit(course: &mut Course) -> Compared {
+    for _ in 0..LIMITS {
+        let rng = &mut course.rng;
+        let (few, any) = (1 + rng.index(8), 1 + rng.index(ROWS_MAX));
+        let rows = if rng.once_in(4) { any } else { few };
+        let shape = Shape {
+            rows,
+            t_low: 4 * rows as u32,
+            t_high: rng.word(8 * rows as u32, 3_000),
+        };
+        if rng.once_in(8) {
+            let words = full_table(rng, shape);
+            same_drawn(course, &words)?;
+        }
+        let LimitPair { within, past } = limit_pair(&mut course.rng, shape);
+        same_drawn(course, &within)?;
+        same_drawn(course, &past)?;
+    }
+    Ok(())
+}
+
+/// Tables with next to no tick free above their last row.
+fn slow(course: &mut Course) -> Compared {
+    for _ in 0..SLOW {
+        let words = slow_table(&mut course.rng);
+        same_drawn(course, &words)?;
+    }
+    Ok(())
+}
+
+/// Periods and deadlines up to the ends of their ranges.
+fn large(course: &mut Course) -> Compared {
+    for round in 0..LARGE {
+        let rng = &mut course.rng;
+        for words in [boundary_table(rng), wide_table(rng), table(rng)] {
+            same_drawn(course, &words)?;
+        }
+        // The walk is long; few of these tables have many rows.
+        let rows = if round % 20 == 0 { ROWS_MAX } else { 6 };
+        let shape = Shape {
+            rows: 1 + course.rng.index(rows),
+            t_low: 200,
+            t_high: 65_535,
+        };
+        let LimitPair { within, past } = limit_pair(&mut course.rng, shape);
+        same_drawn(course, &within)?;
+        same_drawn(course, &past)?;
+    }
+    Ok(())
+}

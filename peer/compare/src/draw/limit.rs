@@ -1,0 +1,136 @@
+//! Tables on either side of the limit between admitted and unschedulable.
+//!
+//! The limit is sought with the second program's leaping search, which is
+//! quick. It only finds cases: what is compared is judged by the walking one.
+
+use peer::rng::Rng;
+use peer::table::{ROWS_MAX, ROW_WORDS, WORD_MAX};
+use peer::verdict::verdict_leaping;
+
+/// Rows and periods of the tables wanted.
+#[derive(Clone, Copy)]
+pub struct Shape {
+    pub rows: usize,
+    /// At least 4 for each row, or even the least costs may be too many.
+    pub t_low: u32,
+    pub t_high: u32,
+}
+
+/// Two tables that differ in one row's C, by one.
+pub struct LimitPair {
+    /// Admitted, close to full load.
+    pub within: Vec<u32>,
+    /// One unit of work more in one row: unschedulable, or C past its range
+    /// where the row could bear even 65,535 units.
+    pub past: Vec<u32>,
+}
+
+/// Costs grow all together until just admitted, then one row's alone.
+pub fn limit_pair(rng: &mut Rng, shape: Shape) -> LimitPair {
+    let mut words = light(rng, shape);
+    let shares: Vec<u64> = (0..shape.rows).map(|_| rng.between(1, 16)).collect();
+    let costs_at = |scale: u32, words: &mut [u32]| {
+        for (row, share) in words.chunks_exact_mut(ROW_WORDS).zip(&shares) {
+            // Of a period's ticks, so many 65,536ths.
+            let cost = (u64::from(row[2]) * share * u64::from(scale)) >> 16;
+            row[1] = cost.clamp(1, u64::from(WORD_MAX)) as u32;
+        }
+    };
+    let scale = last_admitted(0, WORD_MAX, &mut words, costs_at);
+    costs_at(scale, &mut words);
+    let row = rng.index(shape.rows);
+    grow(&mut words, row);
+    let mut past = words.clone();
+    past[row * ROW_WORDS + 1] += 1;
+    LimitPair {
+        within: words,
+        past,
+    }
+}
+
+/// An admitted table in which no row's C can grow by even one.
+pub fn full_table(rng: &mut Rng, shape: Shape) -> Vec<u32> {
+    let mut words = limit_pair(rng, shape).within;
+    for row in (0..shape.rows).rev() {
+        grow(&mut words, row);
+    }
+    words
+}
+
+/// Makes C of one row as large as the admitted table allows.
+fn grow(words: &mut [u32], row: usize) {
+    let at = row * ROW_WORDS + 1;
+    let cost_at = |cost: u32, words: &mut [u32]| words[at] = cost;
+    words[at] = last_admitted(words[at], WORD_MAX, words, cost_at);
+}
+
+/// A table whose last row takes the search through many ticks: the rows above
+/// it leave one tick free in each of their longest period, so the load runs
+/// just ahead of t for long. Its deadline is at the limit or next to it.
+pub fn slow_table(rng: &mut Rng) -> Vec<u32> {
+    let (longest, mut t) = (rng.word(2, 1_000), 1);
+    let widest = if rng.once_in(2) { 3 } else { 2 + longest / 8 };
+    let mut words = Vec::new();
+    for id in 1..ROWS_MAX as u32 {
+        let factor = rng.word(2, widest);
+        if t * factor > longest {
+            break;
+        }
+        t *= factor;
+        let k = rng.word(1, 64);
+        words.extend([id, factor - 1, t, t, k, k]);
+    }
+    let most = WORD_MAX / t;
+    let c = if rng.once_in(2) {
+        most
+    } else {
+        rng.word(1, most)
+    };
+    let d = (c * t + rng.word(0, 2)).saturating_sub(1);
+    let d = d.clamp(1, WORD_MAX);
+    words.extend([WORD_MAX, c, rng.word(d, WORD_MAX), d, 1, 1]);
+    words
+}
+
+/// Rows of least cost, mostly with the shortest deadline highest.
+fn light(rng: &mut Rng, shape: Shape) -> Vec<u32> {
+    let mut rows: Vec<[u32; ROW_WORDS]> = Vec::with_capacity(shape.rows);
+    for id in 1..=shape.rows as u32 {
+        let t = rng.word(shape.t_low, shape.t_high);
+        let d = if rng.once_in(3) {
+            rng.word(t / 2 + 1, t)
+        } else {
+            t
+        };
+        let k = if rng.once_in(3) { 64 } else { 8 };
+        let k = rng.word(1, k);
+        let m = if rng.once_in(4) { k } else { rng.word(1, k) };
+        rows.push([id, 1, t, d, m, k]);
+    }
+    if !rng.once_in(8) {
+        rows.sort_by_key(|row| row[3]);
+    }
+    rows.concat()
+}
+
+/// The largest number up to `high` with which the table is admitted. Loads
+/// never fall when costs grow, so the numbers that are admitted come first;
+/// `low` is taken to be one of them.
+fn last_admitted(
+    mut low: u32,
+    mut high: u32,
+    words: &mut [u32],
+    lay: impl Fn(u32, &mut [u32]),
+) -> u32 {
+    while low < high {
+        let middle = low + (high - low).div_ceil(2);
+        lay(middle, words);
+        let mut room = [0; ROWS_MAX];
+        if verdict_leaping(words, &mut room).is_accepted() {
+            low = middle;
+        } else {
+            high = middle - 1;
+        }
+    }
+    low
+}

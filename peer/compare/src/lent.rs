@@ -1,0 +1,81 @@
+//! Words lent to the first program, with watched words on both sides.
+
+use peer::rng::Rng;
+use peer::table::ROWS_MAX;
+
+/// Watched words before the run, at least.
+const BEFORE: usize = 8;
+
+/// Watched words after it: more than the rows of the longest table, so that an
+/// answer written to a room without any space is still caught here.
+const AFTER: usize = ROWS_MAX + 8;
+
+/// "No refusal alters a lent word or byte, an accepted call alters only the
+/// room its answer fills": a run of words inside a larger buffer, so that what
+/// is written beside the run can be found.
+pub struct Lent {
+    buffer: Vec<u32>,
+    start: usize,
+    len: usize,
+    /// The watched words follow from this number.
+    key: u64,
+}
+
+impl Lent {
+    /// Lends a copy of the words. The run begins at a drawn distance, so that
+    /// nothing leans on an alignment of more than one word.
+    pub fn new(rng: &mut Rng, words: &[u32]) -> Lent {
+        let key = rng.bits();
+        let (start, len) = (BEFORE + rng.index(4), words.len());
+        let mut buffer = Vec::with_capacity(start + len + AFTER);
+        buffer.extend((0..start).map(|at| watched(key, at)));
+        buffer.extend_from_slice(words);
+        buffer.extend((start + len..start + len + AFTER).map(|at| watched(key, at)));
+        Lent {
+            buffer,
+            start,
+            len,
+            key,
+        }
+    }
+
+    /// Where the run begins. The pointer is the whole buffer's: a write beside
+    /// the run is a fault to be reported, and must not be undefined here.
+    pub fn pointer(&mut self) -> *mut u32 {
+        self.buffer.as_mut_ptr().wrapping_add(self.start)
+    }
+
+    /// Words in the run.
+    pub fn len(&self) -> usize {
+        self.len
+    }
+
+    pub fn is_empty(&self) -> bool {
+        self.len == 0
+    }
+
+    /// The run as it now stands.
+    pub fn words(&self) -> &[u32] {
+        &self.buffer[self.start..self.start + self.len]
+    }
+
+    /// The words on both sides that are not what they were: each with its place,
+    /// counted from the run's first word, and what now stands there.
+    pub fn altered_beside(&self) -> Vec<(isize, u32)> {
+        let end = self.start + self.len;
+        let sides = (0..self.start).chain(end..self.buffer.len());
+        let altered = sides.filter(|&at| self.buffer[at] != watched(self.key, at));
+        let place = |at: usize| (at as isize - self.start as isize, self.buffer[at]);
+        altered.map(place).collect()
+    }
+
+    /// Whether the run now holds these words and nothing beside it was altered.
+    pub fn holds(&self, expected: &[u32]) -> bool {
+        self.words() == expected && self.altered_beside().is_empty()
+    }
+}
+
+/// The watched word at a place: rubbish, so that no likely answer passes for it.
+fn watched(key: u64, at: usize) -> u32 {
+    Rng::new(key.wrapping_add(at as u64)).bits() as u32
+}

@@ -1,0 +1,481 @@
+//! "One tick": the state, when it is well formed, and the dispatcher.
+
+use crate::answer::{refusal, Answer};
+use crate::pattern;
+use crate::table::{self, Table, TaskRow, ROWS_MAX, ROW_WORDS};
+
+/// "The clock ends at 4,294,967,295."
+pub const CLOCK_END: u32 = u32::MAX;
+
+/// Words before the rows of a saved state: rows, time, idle.
+pub const HEAD_WORDS: usize = 3;
+
+/// Words of one saved row: id, c, t, d, m, k, wait, place, work, left, kind,
+/// window, released, mm, mx, om, ox, broken.
+pub const SAVED_ROW_WORDS: usize = 18;
+
+/// Words of a saved state: always room for 32 rows.
+pub const STATE_WORDS: usize = HEAD_WORDS + ROWS_MAX * SAVED_ROW_WORDS;
+
+/// Everything kept for one task: "Everything kept for a task goes with its row
+/// and id inside one state".
+#[derive(Clone, Copy, Debug, Default, PartialEq, Eq)]
+pub struct Row {
+    pub id: u32,
+    pub c: u32,
+    pub t: u32,
+    pub d: u32,
+    pub m: u32,
+    pub k: u32,
+    /// "ticks until its next release (wait)"
+    pub wait: u32,
+    /// "the next job's place in its pattern"
+    pub place: u32,
+    /// "the live job's work left"
+    pub work: u32,
+    /// "ticks left to its deadline"
+    pub left: u32,
+    /// 1 for a live mandatory job, otherwise 0
+    pub kind: u32,
+    /// "the newest mark is bit 0, 1 for met"
+    pub window: u64,
+    pub released: u32,
+    /// mandatory met
+    pub mm: u32,
+    /// mandatory missed
+    pub mx: u32,
+    /// optional met
+    pub om: u32,
+    /// optional missed
+    pub ox: u32,
+    /// "broken windows"
+    pub broken: u32,
+}
+
+/// "A state at time t holds the table, the time, the idle count and for each
+/// row" what [`Row`] holds. Rows past the last are all zero.
+#[derive(Clone, Debug, PartialEq, Eq)]
+pub struct State {
+    pub rows: u32,
+    pub time: u32,
+    pub idle: u32,
+    pub row: [Row; ROWS_MAX],
+}
+
+/// Bits 0 to k - 1.
+fn marks(k: u32) -> u64 {
+    1u64.checked_shl(k).map_or(u64::MAX, |bit| bit - 1)
+}
+
+/// "Spare is the number of met marks in the window less m, or 0 if that is
+/// negative".
+pub fn spare(window: u64, m: u32) -> u32 {
+    window.count_ones().saturating_sub(m)
+}
+
+/// "Fresh: time 0, idle 0, wait 0, place 0, nothing live, counts 0, window of k
+/// met marks standing for jobs before the first." Refused with the table's
+/// refusals.
+pub fn fresh(words: &[u32]) -> Result<State, Answer> {
+    let table = Table::of(words)?;
+    let mut state = State {
+        rows: table.rows().len() as u32,
+        time: 0,
+        idle: 0,
+        row: [Row::default(); ROWS_MAX],
+    };
+    for (row, task) in state.row.iter_mut().zip(table.rows()) {
+        *row = Row::fresh(task);
+    }
+    Ok(state)
+}
+
+impl Row {
+    fn fresh(task: &TaskRow) -> Row {
+        Row {
+            id: task.id,
+            c: task.c,
+            t: task.t,
+            d: task.d,
+            m: task.m,
+            k: task.k,
+            window: marks(task.k),
+            ..Row::default()
+        }
+    }
+
+    fn task(&self) -> TaskRow {
+        TaskRow {
+            id: self.id,
+            c: self.c,
+            t: self.t,
+            d: self.d,
+            m: self.m,
+            k: self.k,
+        }
+    }
+
+    /// The four settled counts together.
+    pub fn settled(&self) -> u64 {
+        let counts = [self.mm, self.mx, self.om, self.ox];
+        counts.iter().map(|&count| u64::from(count)).sum()
+    }
+
+    /// "a live job (work left above 0)"
+    pub fn is_live(&self) -> bool {
+        self.work > 0
+    }
+
+    /// "the released count is at most the time and equals the four settled
+    /// counts plus one if a job is live, and the broken count is at most the
+    /// sum of those four"
+    fn counts_well_formed(&self, time: u32) -> bool {
+        self.released <= time
+            && u64::from(self.released) == self.settled() + u64::from(self.is_live())
+            && u64::from(self.broken) <= self.settled()
+    }
+
+    /// "a live job (work left above 0) has 1 to wait ticks left to its deadline
+    /// and kind 1 if mandatory, 0 if optional, and a row without one has
+    /// deadline and kind 0"
+    fn job_well_formed(&self) -> bool {
+        if self.is_live() {
+            1 <= self.left && self.left <= self.wait && self.kind <= 1
+        } else {
+            self.left == 0 && self.kind == 0
+        }
+    }
+
+    /// What is asked of a row once its table is known to be well formed: "wait
+    /// is 0..T-1; the place is below k; the work left is 0..C" and "window bits
+    /// from k up are clear".
+    fn well_formed(&self, time: u32) -> bool {
+        self.counts_well_formed(time)
+            && self.wait < self.t
+            && self.place < self.k
+            && self.work <= self.c
+            && self.job_well_formed()
+            && self.window & !marks(self.k) == 0
+    }
+}
+
+/// "A state offered by a caller is well formed when its table is; time is at
+/// most the clock's end; idle is at most the time; for each row .. ; rows past
+/// the last are all zero. Nothing else is asked".
+///
+/// The time of a [`State`] cannot be past the clock's end; [`from_words`] turns
+/// such a time away.
+pub fn well_formed(state: &State) -> bool {
+    let rows = state.rows as usize;
+    if rows > ROWS_MAX {
+        return false;
+    }
+    let (kept, past) = state.row.split_at(rows);
+    table_well_formed(kept)
+        && state.idle <= state.time
+        && kept.iter().all(|row| row.well_formed(state.time))
+        && past.iter().all(|row| *row == Row::default())
+}
+
+/// The state's own table, judged as any other table is.
+fn table_well_formed(rows: &[Row]) -> bool {
+    let mut words = [0; ROWS_MAX * ROW_WORDS];
+    let (sixes, _) = words.as_chunks_mut::<ROW_WORDS>();
+    for (six, row) in sixes.iter_mut().zip(rows) {
+        *six = row.task().words();
+    }
+    table::check(&words[..rows.len() * ROW_WORDS]).is_accepted()
+}
+
+/// One bit for each row: due for release, live and mandatory, live and
+/// optional. Kept beside the rows during a run, so that choosing is a look at
+/// the lowest set bit.
+#[derive(Clone, Copy)]
+struct Bits {
+    due: u32,
+    mandatory: u32,
+    optional: u32,
+}
+
+impl Bits {
+    fn of(rows: &[Row]) -> Bits {
+        let mut bits = Bits {
+            due: 0,
+            mandatory: 0,
+            optional: 0,
+        };
+        for (row, kept) in rows.iter().enumerate() {
+            bits.due |= u32::from(kept.wait == 0) << row;
+            if kept.is_live() {
+                bits.enter(row, kept.kind);
+            }
+        }
+        bits
+    }
+
+    fn enter(&mut self, row: usize, kind: u32) {
+        if kind == 1 {
+            self.mandatory |= 1 << row;
+        } else {
+            self.optional |= 1 << row;
+        }
+    }
+
+    fn leave(&mut self, row: usize) {
+        self.mandatory &= !(1 << row);
+        self.optional &= !(1 << row);
+    }
+
+    /// "Among live jobs the mandatory one of the highest row is chosen; if
+    /// there is none, the optional one of the highest row; if none, the tick is
+    /// idle." Row 0 is the highest, so the lowest set bit wins.
+    fn chosen(&self) -> Option<usize> {
+        if self.mandatory != 0 {
+            Some(self.mandatory.trailing_zeros() as usize)
+        } else if self.optional != 0 {
+            Some(self.optional.trailing_zeros() as usize)
+        } else {
+            None
+        }
+    }
+}
+
+/// The rows of a set of bits, highest row first.
+fn each(mut bits: u32) -> impl Iterator<Item = usize> {
+    std::iter::from_fn(move || {
+        let row = bits.trailing_zeros() as usize;
+        bits &= bits.wrapping_sub(1);
+        (row < ROWS_MAX).then_some(row)
+    })
+}
+
+/// "Every row with wait 0 releases its next job with C work, D ticks to its
+/// deadline, and its kind from the pattern at its place. Its wait becomes T and
+/// its place goes up by one, from k - 1 to 0."
+#[inline]
+fn release(row: &mut Row, pattern: u64) -> u32 {
+    row.work = row.c;
+    row.left = row.d;
+    row.kind = (pattern >> row.place & 1) as u32;
+    row.wait = row.t;
+    row.place = if row.place + 1 == row.k {
+        0
+    } else {
+        row.place + 1
+    };
+    row.released += 1;
+    row.kind
+}
+
+/// "A settled job shifts its row's window: the newest mark is bit 0, 1 for met,
+/// older marks move up, the mark that reaches bit k is cut." The counts follow,
+/// and "work, deadline and kind become 0".
+#[inline]
+fn settle(row: &mut Row) {
+    let met = row.work == 0;
+    row.window = (row.window << 1 | u64::from(met)) & marks(row.k);
+    row.broken += u32::from(row.window.count_ones() < row.m);
+    match (row.kind == 1, met) {
+        (true, true) => row.mm += 1,
+        (true, false) => row.mx += 1,
+        (false, true) => row.om += 1,
+        (false, false) => row.ox += 1,
+    }
+    row.work = 0;
+    row.left = 0;
+    row.kind = 0;
+}
+
+/// "every wait, and the ticks left of every live job, fall by one." Gives the
+/// rows now due for release and the live ones whose deadline is reached. The
+/// waits are gone through from the lowest row up, so that each row's bit is
+/// shifted into its place; only live rows are visited for the second part.
+#[inline]
+fn fall(rows: &mut [Row], live: u32) -> (u32, u32) {
+    let (mut due, mut reached) = (0, 0);
+    for row in rows.iter_mut().rev() {
+        row.wait -= 1;
+        due = due << 1 | u32::from(row.wait == 0);
+    }
+    for at in each(live) {
+        let left = &mut rows[at].left;
+        *left -= 1;
+        reached |= u32::from(*left == 0) << at;
+    }
+    (due, reached)
+}
+
+/// One tick on rows known to be well formed: release, choose, work, settle. The
+/// clock and the idle count are the caller's. Gives the row that was chosen.
+#[inline]
+fn one_tick(rows: &mut [Row], patterns: &[u64; ROWS_MAX], bits: &mut Bits) -> Option<usize> {
+    for at in each(bits.due) {
+        let kind = release(&mut rows[at], patterns[at]);
+        bits.enter(at, kind);
+    }
+    let chosen = bits.chosen();
+    let mut done = 0;
+    if let Some(at) = chosen {
+        rows[at].work -= 1;
+        done = u32::from(rows[at].work == 0) << at;
+    }
+    let (due, reached) = fall(rows, bits.mandatory | bits.optional);
+    bits.due = due;
+    for at in each(done | reached) {
+        settle(&mut rows[at]);
+        bits.leave(at);
+    }
+    chosen
+}
+
+/// "A run of n ticks is n such ticks. n is any 32-bit number; a run of 0
+/// changes nothing." "For a run: 14, 15." A refused run leaves the state as it
+/// was.
+pub fn run(state: &mut State, n: u32) -> Answer {
+    run_watched(state, n, |_| ())
+}
+
+/// The same run, and at every tick the chosen row is shown to `watch`, or
+/// `None` when the tick is idle.
+pub fn run_watched(state: &mut State, n: u32, mut watch: impl FnMut(Option<usize>)) -> Answer {
+    if !well_formed(state) {
+        return Answer::refused(refusal::STATE);
+    }
+    let Some(end) = state.time.checked_add(n) else {
+        return Answer::refused(refusal::CLOCK);
+    };
+    let rows = &mut state.row[..state.rows as usize];
+    let mut patterns = [0; ROWS_MAX];
+    for (word, row) in patterns.iter_mut().zip(rows.iter()) {
+        *word = pattern::entry(row.m, row.k);
+    }
+    let mut bits = Bits::of(rows);
+    let mut idle = state.idle;
+    for _ in 0..n {
+        let chosen = one_tick(rows, &patterns, &mut bits);
+        idle += u32::from(chosen.is_none());
+        watch(chosen);
+    }
+    state.idle = idle;
+    state.time = end;
+    Answer::accepted(0)
+}
+
+/// One tick, refused as a run of one is: "a tick is defined on each such state
+/// below the clock's end".
+pub fn tick(state: &mut State) -> Answer {
+    run(state, 1)
+}
+
+/// The saved form of a state: [rows, time, idle], then 32 rows of 18 words.
+pub fn to_words(state: &State) -> [u64; STATE_WORDS] {
+    let mut words = [0; STATE_WORDS];
+    words[0] = u64::from(state.rows);
+    words[1] = u64::from(state.time);
+    words[2] = u64::from(state.idle);
+    let (saved, _) = words[HEAD_WORDS..].as_chunks_mut::<SAVED_ROW_WORDS>();
+    for (saved, row) in saved.iter_mut().zip(&state.row) {
+        *saved = saved_row(row);
+    }
+    words
+}
+
+fn saved_row(row: &Row) -> [u64; SAVED_ROW_WORDS] {
+    let low = [
+        row.id, row.c, row.t, row.d, row.m, row.k, row.wait, row.place, row.work, row.left,
+        row.kind,
+    ];
+    let high = [row.released, row.mm, row.mx, row.om, row.ox, row.broken];
+    let mut saved = [0; SAVED_ROW_WORDS];
+    for (word, field) in saved.iter_mut().zip(low) {
+        *word = u64::from(field);
+    }
+    saved[11] = row.window;
+    for (word, field) in saved[12..].iter_mut().zip(high) {
+        *word = u64::from(field);
+    }
+    saved
+}
+
+/// The state that the words save, or `None` when there is none: a length other
+/// than 579, or a word too large for its field. Well formed or not is another
+/// question.
+pub fn from_words(words: &[u64]) -> Option<State> {
+    let words: &[u64; STATE_WORDS] = words.try_into().ok()?;
+    let mut state = State {
+        rows: u32::try_from(words[0]).ok()?,
+        time: u32::try_from(words[1]).ok()?,
+        idle: u32::try_from(words[2]).ok()?,
+        row: [Row::default(); ROWS_MAX],
+    };
+    let (saved, _) = words[HEAD_WORDS..].as_chunks::<SAVED_ROW_WORDS>();
+    for (row, saved) in state.row.iter_mut().zip(saved) {
+        *row = row_from(saved)?;
+    }
+    Some(state)
+}
+
+fn row_from(saved: &[u64; SAVED_ROW_WORDS]) -> Option<Row> {
+    let field = |at: usize| u32::try_from(saved[at]).ok();
+    Some(Row {
+        id: field(0)?,
+        c: field(1)?,
+        t: field(2)?,
+        d: field(3)?,
+        m: field(4)?,
+        k: field(5)?,
+        wait: field(6)?,
+        place: field(7)?,
+        work: field(8)?,
+        left: field(9)?,
+        kind: field(10)?,
+        window: saved[11],
+        released: field(12)?,
+        mm: field(13)?,
+        mx: field(14)?,
+        om: field(15)?,
+        ox: field(16)?,
+        broken: field(17)?,
+    })
+}
+
+/// 14, or accepted with value 0. A word too large for its field is past the
+/// bound that the document sets for it, every such bound being below 2^32.
+pub fn well_formed_words(words: &[u64]) -> Answer {
+    match from_words(words) {
+        Some(state) if well_formed(&state) => Answer::accepted(0),
+        _ => Answer::refused(refusal::STATE),
+    }
+}
+
+/// A run on a saved state: "a refused run hands back the state it got".
+pub fn run_words(words: &mut [u64], n: u32) -> Answer {
+    let Some(mut state) = from_words(words) else {
+        return Answer::refused(refusal::STATE);
+    };
+    let answer = run(&mut state, n);
+    if answer.is_accepted() {
+        // The length is 579: from_words has taken these words.
+        words.copy_from_slice(&to_words(&state));
+    }
+    answer
+}
+
+/// One tick on a saved state, refused as a run of one is.
+pub fn tick_words(words: &mut [u64]) -> Answer {
+    run_words(words, 1)
+}
+
+/// The fresh state of a table, saved into the first 579 words of the lent room.
+/// The table's refusals come first, then 13. The value is the number of rows.
+pub fn fresh_words(table: &[u32], room: &mut [u64]) -> Answer {
+    let state = match fresh(table) {
+        Ok(state) => state,
+        Err(answer) => return answer,
+    };
+    let Some(room) = room.get_mut(..STATE_WORDS) else {
+        return Answer::refused(refusal::ROOM_TOO_SHORT);
+    };
+    room.copy_from_slice(&to_words(&state));
+    Answer::accepted(u64::from(state.rows))
+}

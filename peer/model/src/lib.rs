@@ -1,0 +1,19 @@
+//! The second program: the rules of document 01, written from that document
+//! alone, so that its answers can be laid beside the first program's.
+//!
+//! Everything here is total. Each function gives an answer on every input and
+//! none of them panics; what the document refuses comes back as a refusal
+//! number in an [`answer::Answer`].
+#![forbid(unsafe_code)]
+
+pub mod answer;
+pub mod brute;
+pub mod dispatch;
+pub mod gen;
+pub mod pattern;
+pub mod promise;
+pub mod report;
+pub mod rng;
+pub mod table;
+pub mod text;
+pub mod verdict;

@@ -1,0 +1,107 @@
+//! "Patterns": which jobs are mandatory, and the pattern book.
+
+use crate::answer::{refusal, Answer};
+
+/// "k 1..64"
+pub const K_MAX: u32 = 64;
+
+/// "one 64-bit word for each pair (m,k), 2,080 words in all"
+pub const PAIRS: usize = 2080;
+
+/// "k 1..64; m 1..k": the pairs that have a pattern.
+pub const fn is_pair(m: u32, k: u32) -> bool {
+    1 <= k && k <= K_MAX && 1 <= m && m <= k
+}
+
+/// "Job a is mandatory when a = floor(ceil(a x m / k) x k / m), otherwise
+/// optional."
+///
+/// A pair outside its range has no pattern; none of its jobs is mandatory.
+pub const fn mandatory(m: u32, k: u32, a: u32) -> bool {
+    if !is_pair(m, k) {
+        return false;
+    }
+    // With m and k at most 64 every product stays far below 2^64.
+    let (m, k, a) = (m as u64, k as u64, a as u64);
+    a == (a * m).div_ceil(k) * k / m
+}
+
+/// "the first q jobs hold exactly ceil(q x m / k) mandatory ones"
+///
+/// A pair outside its range has no mandatory jobs: 0.
+pub const fn count(m: u32, k: u32, q: u32) -> u64 {
+    if !is_pair(m, k) {
+        return 0;
+    }
+    (q as u64 * m as u64).div_ceil(k as u64)
+}
+
+/// "Bit a, for a below k, is set exactly when job a is mandatory; higher bits
+/// are clear." Worked out afresh from the rule; 0 for a pair outside its range,
+/// which no pair inside it has, job 0 being always mandatory.
+pub const fn word(m: u32, k: u32) -> u64 {
+    if !is_pair(m, k) {
+        return 0;
+    }
+    let mut bits = 0;
+    let mut a = 0;
+    while a < k {
+        if mandatory(m, k, a) {
+            bits |= 1 << a;
+        }
+        a += 1;
+    }
+    bits
+}
+
+/// "the pair's word at place k(k-1)/2 + m - 1"
+pub const fn place(m: u32, k: u32) -> Option<usize> {
+    if !is_pair(m, k) {
+        return None;
+    }
+    Some((k * (k - 1) / 2 + m - 1) as usize)
+}
+
+/// The book, written once when the program is built, so that a run looks its
+/// words up instead of working them out.
+static BOOK: [u64; PAIRS] = written();
+
+const fn written() -> [u64; PAIRS] {
+    let mut words = [0; PAIRS];
+    let mut k = 1;
+    while k <= K_MAX {
+        let mut m = 1;
+        while m <= k {
+            if let Some(at) = place(m, k) {
+                words[at] = word(m, k);
+            }
+            m += 1;
+        }
+        k += 1;
+    }
+    words
+}
+
+/// "The pattern book holds one 64-bit word for each pair (m,k)".
+pub fn book() -> Vec<u64> {
+    BOOK.to_vec()
+}
+
+/// The pair's word out of the book; 0 for a pair outside its range.
+pub fn entry(m: u32, k: u32) -> u64 {
+    place(m, k).map_or(0, |at| BOOK[at])
+}
+
+/// "A question about one job takes m, k and any 32-bit job number." "For a
+/// question about one job: 8, 9, each with row 0."
+///
+/// The value is 1 for a mandatory job and 0 for an optional one.
+pub fn job(m: u32, k: u32, a: u32) -> Answer {
+    if !(1..=K_MAX).contains(&k) {
+        return Answer::refused_at(refusal::K, 0);
+    }
+    if !(1..=k).contains(&m) {
+        return Answer::refused_at(refusal::M, 0);
+    }
+    Answer::accepted(u64::from(mandatory(m, k, a)))
+}
