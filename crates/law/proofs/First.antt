@@ -132,3 +132,11 @@ build-at f (suc n) i d h =
       | yes l ↦ List·getD-append (build f n) (f n ∷ []) d i (omega (arith, build-length f n)) ∙ build-at f n i d l
       | no l ↦ let e : n ≡ i = omega arith in getD-at (build f n) (f n) [] d i (build-length f n ∙ e) ∙ ap f e
     ]
+
+-- tests that agree in a range find the same there
+pub first-same : (p q : ℕ → Bool) (i n : ℕ) → ((j : ℕ) → i ≤ j → j < i + n → p j ≡ q j) → firstFrom p i n ≡ firstFrom q i n
+unfolding firstFrom
+first-same p q i zero e = refl
+first-same p q i (suc n) e =
+    ap (λ (b : Bool). pick b i (firstFrom p (suc i) n)) (e i (omega arith) (omega arith))
+    ∙ ap (λ (z : ℕ). pick (q i) i z) (first-same p q (suc i) n (λ j l h. e j (omega arith) (omega arith)))

@@ -8,7 +8,7 @@ use native.Mathlib.Decide.{decLt}
 use native.Mathlib.Nat.{add-suc, add-zero, suc-mul, zero-mul, zero-add, div-add-mod', mod-lt, le-refl}
 use native.Mathlib.Omega.{arith}
 use lib.Dec.{leb, eqb}
-use lib.ListN.{length, getD, set, take, drop, replicate, length-append, length-replicate, length-set, length-drop, getD-replicate, List·getD-append}
+use lib.ListN.{length, getD, set, take, drop, replicate, length-append, length-replicate, length-set, length-drop, getD-replicate, replicate-append-replicate, List·getD-append}
 use lib.Seq.{sets, sets-eq, getD-append-add, getD-drop, ext-getD, take-append-add, drop-append-add}
 use borrow.Author.Tests.{eqb-true}
 use Rattle.law.specs.Sums.{bit, both, every, build}
@@ -240,3 +240,28 @@ module _ (words : List ℕ) (long : length words ≡ 579) (few : getD words 0 0 
     saved-laid =
         ext-getD 0 words (laid (stateOf words)) (long ∙ sym (laid-length (stateOf words) (omega (arith, said-length))))
         (λ i h. word-same i (omega arith))
+
+-- ---- a state with nothing in its rows
+
+abbrev pub blank : ℕ → State
+blank n = record { time = 0; idle = 0; rows = replicate n noRow }
+
+zeros : (n : ℕ) → wordsOf noRow ++ replicate n 0 ≡ replicate (18 + n) 0
+unfolding wordsOf
+zeros n = replicate-append-replicate 18 n 0
+
+blank-rows : (n : ℕ) → rowsLaid (replicate n noRow) ≡ replicate (n * 18) 0
+unfolding rowsLaid
+blank-rows zero = refl
+blank-rows (suc n) =
+    let e : 18 + n * 18 ≡ suc n * 18 = omega (arith, suc-mul n 18) in
+    ap (λ (z : List ℕ). wordsOf noRow ++ z) (blank-rows n) ∙ zeros (n * 18) ∙ ap (λ (z : ℕ). replicate z 0) e
+
+pub blank-laid : (n : ℕ) → n ≤ 32 → set (replicate 579 0) 0 n ≡ laid (blank n)
+unfolding laid
+blank-laid n h =
+    let e : n * 18 + (32 - n) * 18 ≡ 576 = omega arith in
+    ap (λ (z : ℕ). n ∷ 0 ∷ 0 ∷ replicate z 0) (sym e)
+    ∙ ap (λ (z : List ℕ). n ∷ 0 ∷ 0 ∷ z) (sym (replicate-append-replicate (n * 18) ((32 - n) * 18) 0))
+    ∙ ap (λ (z : List ℕ). n ∷ 0 ∷ 0 ∷ (z ++ replicate ((32 - n) * 18) 0)) (sym (blank-rows n))
+    ∙ ap (λ (z : ℕ). z ∷ 0 ∷ 0 ∷ (rowsLaid (replicate n noRow) ++ replicate ((32 - z) * 18) 0)) (sym (length-replicate n noRow))

@@ -13,4 +13,6 @@ pub mod Window
 pub mod Laid
 pub mod Sound
 pub mod Ticks
+pub mod Units
+pub mod Fresh
 pub mod Examples

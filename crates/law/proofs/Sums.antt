@@ -25,6 +25,11 @@ unfolding sum
 sum-add f h zero = refl
 sum-add f h (suc n) = omega (arith, sum-add f h n)
 
+pub sum-cong : (f h : ℕ → ℕ) (n : ℕ) → ((j : ℕ) → j < n → f j ≡ h j) → sum f n ≡ sum h n
+unfolding sum
+sum-cong f h zero e = refl
+sum-cong f h (suc n) e = omega (arith, sum-cong f h n (λ j l. e j (omega arith)), e n (omega arith))
+
 pub sum-none : (f : ℕ → ℕ) (n : ℕ) → ((j : ℕ) → j < n → f j ≡ 0) → sum f n ≡ 0
 unfolding sum
 sum-none f zero e = refl
@@ -141,3 +146,9 @@ module _ {A : Type 0} (p : A → Bool) (l : List A) (d : A) where
   pub every-end : (i : ℕ) → length l ≤ i → every p (drop i l) ≡ true
   unfolding every
   every-end i h = rw (drop-of-length-le l h)
+
+pub among-same : (p q : ℕ → Bool) (a n : ℕ) → ((j : ℕ) → a ≤ j → j < a + n → p j ≡ q j) → among p a n ≡ among q a n
+unfolding among
+among-same p q a zero e = refl
+among-same p q a (suc n) e =
+    omega (arith, among-same p q a n (λ j l h. e j l (omega arith)), ap bit (e (a + n) (omega arith) (omega arith)))

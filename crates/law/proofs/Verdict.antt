@@ -2,22 +2,23 @@
 use mathlib.Core.Bool.{Bool, true, false, not}
 use mathlib.Core.List.{List, [], _∷_, _++_}
 use mathlib.Core.Path.{_≡_, refl, sym, ap, _∙_}
-use Prim.Native.Nat.{ℕ, zero, suc, _+_, _-_, _*_, _/_, _≤_, _<_}
-use native.Mathlib.Decide.{decLt}
+use Prim.Native.Nat.{ℕ, zero, suc, _+_, _-_, _*_, _/_, _%_, _≤_, _<_}
+use native.Mathlib.Decide.{decLt, ℕ-discrete}
 use native.Mathlib.Nat.{mul-le-mul-left, mul-le-mul, add-suc, suc-mul, mul-one}
 use native.Mathlib.Omega.{arith}
 use lib.Dec.{leb, ltb, eqb}
 use lib.ListN.{length, getD, drop}
-use borrow.Author.Tests.{le-leb, lt-leb, leb-true, leb-false, eq-eqb, ne-eqb}
+use borrow.Author.Tests.{le-leb, lt-leb, leb-true, leb-false, eq-eqb, ne-eqb, eqb-false}
 use Rattle.law.specs.Sums.{bit, ceil, sum, firstFrom, first}
 use Rattle.law.specs.Refusal.{Answer, accepted, refused, orRefused, after, lent}
 use Rattle.law.specs.Pattern.{IsPattern, mandatory, count}
-use Rattle.law.specs.Table.{Task, row, kindOf, countOf, Ranged, WellFormed, tableOf, checked}
+use Rattle.law.specs.Table.{Task, row, width, kindOf, countOf, Ranged, WellFormed, tableOf, repeated, faultOf, rowFault, faulty, rowsChecked, checked}
 use Rattle.law.specs.Verdict.{demand, load, fitsAt, response, fits, misfit, admitted, responses, verdict, verdictRoom}
 use Rattle.law.proofs.Ceil.{ceil-mono, ceil-least}
 use Rattle.law.proofs.Pattern.{even, counted-mono}
 use Rattle.law.proofs.First.{first-is, first-high}
 use Rattle.law.proofs.Sums.{sum-mono}
+use Rattle.law.proofs.Table.{fault-range, passed-on}
 
 -- the pattern of a row keeps the laws of a pattern: the one place that knows which pattern it is
 pub pattern-of : {r : Task} → Ranged r → IsPattern (r .m) (r .k) (kindOf r) (countOf r)
@@ -105,6 +106,10 @@ pub misfit-most : (tasks : List Task) → misfit tasks ≤ length tasks
 unfolding misfit
 misfit-most tasks = omega (arith, first-high (λ i. not (fits tasks i)) 0 (length tasks))
 
+admitted-is : (tasks : List Task) → admitted tasks ≡ false → eqb (misfit tasks) (length tasks) ≡ false
+unfolding admitted
+admitted-is tasks e = e
+
 -- the verdict by its cases; the words were checked before
 module _ (words : List ℕ) (room : List ℕ) where
   pub verdict-unchecked : (n : ℕ) (also : List ℕ) → checked words ≡ refused n also
@@ -136,3 +141,80 @@ module _ (words : List ℕ) (room : List ℕ) where
         let e = le-leb (length (tableOf words)) (length room) h in
         let f = eq-eqb (misfit (tableOf words)) (length (tableOf words)) l in
         (rw (good, e, f), rw (good, e, f))
+
+-- what an answer of the verdict says
+after-accepted : (a next : Answer) (vs : List ℕ) → after a next ≡ accepted vs → (ws : List ℕ) × (a ≡ accepted ws) × (next ≡ accepted vs)
+after-accepted (accepted ws) next vs e = (ws, refl, e)
+after-accepted (refused n also) next vs e = absurd (let z : _≡_ {A = ℕ} 0 1 = cc in omega arith)
+
+pub record AdmittedBy (words : List ℕ) (room : ℕ) : Type 0 where
+  pub vs : List ℕ
+  pub good : checked words ≡ accepted vs
+  pub fits : length (tableOf words) ≤ room
+  pub all : admitted (tableOf words) ≡ true
+
+pub admitted-says : (words : List ℕ) (room : ℕ) (vs : List ℕ) → verdict words room ≡ accepted vs → AdmittedBy words room
+unfolding verdict
+admitted-says words room vs e =
+    let a = after-accepted (checked words) _ vs e in
+    let r = passed-on (leb (length (tableOf words)) room) 13 [] vs _ (a .2) in
+    let m = passed-on (admitted (tableOf words)) 11 (misfit (tableOf words) ∷ []) vs _ (r .1) in
+    record { vs = a .0; good = a .1; fits = leb-true (length (tableOf words)) room (r .0); all = m .0 }
+
+pub record LateBy (words : List ℕ) (i : ℕ) : Type 0 where
+  pub vs : List ℕ
+  pub good : checked words ≡ accepted vs
+  pub is : misfit (tableOf words) ≡ i
+  pub in-table : i < length (tableOf words)
+
+-- the number of a refusal; the checks of words give 1 to 10 alone
+numbered : Answer → ℕ
+numbered (accepted vs) = 0
+numbered (refused n also) = n
+
+rows-number : (tasks : List Task) → numbered (rowsChecked tasks) ≤ 10
+unfolding rowsChecked numbered
+rows-number tasks =
+    by (eqb (faulty tasks) (length tasks))
+  where
+    small : (r : Task) (twice : Bool) → faultOf r twice ≤ 10
+    small r twice =
+        elim (ℕ-discrete (faultOf r twice) 0) [ yes e ↦ omega arith | no h ↦ fault-range r twice h .1 ]
+
+    by : (b : Bool) → numbered (orRefused b (refused (rowFault tasks (faulty tasks)) (faulty tasks ∷ [])) (accepted (length tasks ∷ []))) ≤ 10
+    by true = omega arith
+    by false = small (row tasks (faulty tasks)) (repeated tasks (faulty tasks))
+
+checked-number : (words : List ℕ) → numbered (checked words) ≤ 10
+unfolding checked numbered
+checked-number words = three (eqb (length words % width) 0) (ltb 0 (length words / width)) (leb (length words / width) 32)
+  where
+    three : (a b c : Bool) → numbered (orRefused a (refused 1 []) (orRefused b (refused 2 []) (orRefused c (refused 3 []) (rowsChecked (tableOf words))))) ≤ 10
+    three true true true = rows-number (tableOf words)
+    three true true false = omega arith
+    three true false c = omega arith
+    three false b c = omega arith
+
+pub late-says : (words : List ℕ) (room i : ℕ) → verdict words room ≡ refused 11 (i ∷ []) → LateBy words i
+unfolding verdict numbered
+late-says words room i e = by (checked words) refl e
+  where
+    table : List Task
+    table = tableOf words
+
+    last : (vs : List ℕ) → checked words ≡ accepted vs → (b : Bool) → admitted table ≡ b
+        → orRefused b (refused 11 (misfit table ∷ [])) (accepted (length table ∷ [])) ≡ refused 11 (i ∷ []) → LateBy words i
+    last vs g true q f = absurd (let z : _≡_ {A = ℕ} 0 1 = cc in omega arith)
+    last vs g false q f =
+        let is : misfit table ≡ i = cc in
+        record { vs = vs; good = g; is = is; in-table = omega (arith, misfit-most table, eqb-false (misfit table) (length table) (admitted-is table q)) }
+
+    roomy : (vs : List ℕ) → checked words ≡ accepted vs → (b : Bool)
+        → orRefused b (refused 13 []) (orRefused (admitted table) (refused 11 (misfit table ∷ [])) (accepted (length table ∷ []))) ≡ refused 11 (i ∷ []) → LateBy words i
+    roomy vs g true f = last vs g (admitted table) refl f
+    roomy vs g false f = absurd (omega (arith, ap numbered f))
+
+    by : (a : Answer) → checked words ≡ a
+        → after a (orRefused (leb (length table) room) (refused 13 []) (orRefused (admitted table) (refused 11 (misfit table ∷ [])) (accepted (length table ∷ [])))) ≡ refused 11 (i ∷ []) → LateBy words i
+    by (accepted vs) g f = roomy vs g (leb (length table) room) f
+    by (refused n also) g f = absurd (omega (arith, checked-number words, ap numbered g, ap numbered f))

@@ -31,9 +31,14 @@ isMet missed = false
 abbrev pub releaseTick : List Task → ℕ → ℕ → ℕ
 releaseTick tasks i a = a * row tasks i .t
 
--- the ticks that job a of row i took: the first n from 1 to D for which row i's settling at its release + n is met; D + 1 where there is none
+-- the ticks that job a of row i, with task r, took in a course of states: the first n from 1 to D for which row i's settling at its release + n
+-- is met; D + 1 where there is none
+abbrev pub tookIn : (ℕ → State) → Task → ℕ → ℕ → ℕ
+tookIn states r i a = firstFrom (λ n. isMet (settling (states (a * r .t + n - 1)) i)) 1 (r .d)
+
+-- the same in the run from fresh
 unfoldable pub took : List Task → ℕ → ℕ → ℕ
-took tasks i a = firstFrom (λ n. isMet (settling (after tasks (releaseTick tasks i a + n - 1)) i)) 1 (row tasks i .d)
+took tasks i a = tookIn (after tasks) (row tasks i) i a
 
 -- job a of row i finished by its deadline
 unfoldable pub inTime : List Task → ℕ → ℕ → Bool

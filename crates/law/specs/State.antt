@@ -137,6 +137,10 @@ savedWell words =
     both (eqb (length words) stateWords)
     (both (stateWell (stateOf words)) (every (λ w. eqb w 0) (drop (headWords + getD words 0 0 * rowWords) words)))
 
+-- whether words are a well-formed state, as an answer: "14: state not well formed"
+unfoldable pub savedAnswer : List ℕ → Answer
+savedAnswer words = orRefused (savedWell words) (refused 14 []) (accepted [])
+
 -- "14: state not well formed", "15: time + n past the clock's end". "For a run: 14, 15"
 unfoldable pub runAnswer : List ℕ → ℕ → Answer
 runAnswer words n =

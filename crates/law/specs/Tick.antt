@@ -4,7 +4,7 @@ use mathlib.Core.List.{List, [], _∷_, _++_, map}
 use Prim.Native.Nat.{ℕ, zero, suc, _+_, _-_, _*_, _%_, _/_, _^_}
 use lib.Dec.{leb, ltb, eqb}
 use lib.ListN.{length, getD}
-use Rattle.law.specs.Sums.{bit, both, pick, first, mapFrom, among}
+use Rattle.law.specs.Sums.{bit, both, pick, sum, first, mapFrom, among}
 use Rattle.law.specs.Refusal.{within}
 use Rattle.law.specs.Table.{Task, noTask, kindOf, rowFault}
 
@@ -211,6 +211,16 @@ tick s = finish (begin (fullLength (s .rows)) s)
 unfoldable pub run : ℕ → State → State
 run zero s = s
 run (suc n) s = tick (run n s)
+
+-- the units of work taken from jobs in the tick that begins in a state, and in a run
+unfoldable pub unitsIn : State → ℕ
+unitsIn s =
+    sum (λ i. coreAt (begin (fullLength (s .rows)) s .rows) i .work
+    - workAfter (eqb i (choose (begin (fullLength (s .rows)) s .rows))) (coreAt (begin (fullLength (s .rows)) s .rows) i)) (length (s .rows))
+
+unfoldable pub units : ℕ → State → ℕ
+units zero s = 0
+units (suc n) s = units n s + unitsIn (run n s)
 
 -- "The clock ends at 4,294,967,295"
 abbrev pub clockEnd : ℕ

@@ -4,10 +4,14 @@ ghost use lib.ListN.{length};
 ghost use Rattle.law.specs.Pattern.{question, pairWord};
 ghost use Rattle.law.specs.Table.{checked};
 ghost use Rattle.law.specs.Verdict.{verdict as verdictLaw, verdictRoom};
+ghost use Rattle.law.specs.State.{freshAnswer, freshWords, runAnswer, runWords, savedAnswer};
 ghost use Rattle.refusal.specs.Shown.{shown};
+ghost use Rattle.dispatch.specs.Shown.{ranShown};
 ghost use Rattle.stand_c.specs.Numbered.{numbered};
 use book::Job;
 use book::Word;
+use dispatch::run::Ran;
+use dispatch::start::Started;
 use refusal::Refusal;
 use table::Checked;
 use verdict::Verdict;
@@ -88,4 +92,63 @@ pub extern "C" fn gp_verdict(words: &[u32], room: &mut [u32]) -> Answer
         },
         Verdict::Refused(r) => refused(r),
     }
+}
+
+fn ran(r: Ran) -> Answer
+    ensures { λ a. ⌜ a ≡ numbered (ranShown r) ⌝ }
+{
+    match r {
+        Ran::Done => Answer {
+            refusal: 0,
+            value: 0,
+        },
+        Ran::Refused(r) => refused(r),
+    }
+}
+
+// The fresh state of a table, laid into the first 579 words of a room: its number of rows.
+#[no_mangle]
+pub extern "C" fn gp_fresh(table: &[u32], room: &mut [u64]) -> Answer
+    ensures answer { λ a. ⌜ a ≡ numbered (freshAnswer (now (table .entry)) (length (now (room .entry)))) ⌝ }
+    ensures room { λ a. ⌜ now (room .exit) ≡ freshWords (now (table .entry)) (now (room .entry)) ⌝ }
+{
+    match dispatch::start::fresh_words(table, room) {
+        Started::Rows(rows) => Answer {
+            refusal: 0,
+            value: rows as u64,
+        },
+        Started::Refused(r) => refused(r),
+    }
+}
+
+// Whether 579 words are a well-formed state.
+#[no_mangle]
+pub extern "C" fn gp_well(state: &[u64]) -> Answer
+    ensures { λ a. ⌜ a ≡ numbered (savedAnswer (now (state .entry))) ⌝ }
+{
+    if dispatch::well::is_well(state) {
+        return Answer {
+            refusal: 0,
+            value: 0,
+        };
+    }
+    refused(Refusal::State)
+}
+
+// One tick of a saved state.
+#[no_mangle]
+pub extern "C" fn gp_tick(state: &mut [u64]) -> Answer
+    ensures answer { λ a. ⌜ a ≡ numbered (runAnswer (now (state .entry)) 1) ⌝ }
+    ensures state { λ a. ⌜ now (state .exit) ≡ runWords (now (state .entry)) 1 ⌝ }
+{
+    ran(dispatch::run::tick_words(state))
+}
+
+// n ticks of a saved state.
+#[no_mangle]
+pub extern "C" fn gp_run(state: &mut [u64], n: u32) -> Answer
+    ensures answer { λ a. ⌜ a ≡ numbered (runAnswer (now (state .entry)) n) ⌝ }
+    ensures state { λ a. ⌜ now (state .exit) ≡ runWords (now (state .entry)) n ⌝ }
+{
+    ran(dispatch::run::run_words(state, n))
 }

@@ -1,0 +1,125 @@
+-- Whether words are a well-formed state: one law for each way out of the code, and what well-formed words give to the run.
+use mathlib.Core.Bool.{Bool, true, false}
+use mathlib.Core.List.{List, [], _∷_, _++_}
+use mathlib.Core.Path.{_≡_, refl, sym, ap, _∙_}
+use Prim.Native.Nat.{ℕ, _+_, _*_, _≤_, _<_}
+use native.Mathlib.Omega.{arith}
+use lib.Dec.{leb, eqb}
+use lib.ListN.{length, getD, drop}
+use borrow.Author.Tests.{le-leb, lt-leb, eq-eqb, ne-eqb, eqb-true, leb-true}
+use Rattle.law.specs.Sums.{both, every}
+use Rattle.law.specs.Refusal.{Answer, accepted, refused, within}
+use Rattle.law.specs.Table.{faulty, tableOf, checked}
+use Rattle.law.specs.Tick.{run, fresh, clockEnd}
+use Rattle.law.specs.State.{tasksOf, tableWell, rowWell, stateWell, stateOf, laid, savedWell, runAnswer, runWords, freshAnswer, freshWords}
+use Rattle.law.specs.Sound.{SoundState}
+use Rattle.law.proofs.Tests.{both-left, both-right}
+use Rattle.law.proofs.Question.{within-low, within-high}
+use Rattle.law.proofs.Ticks.{tasks-length, state-facts}
+use Rattle.law.proofs.Laid.{saved-laid}
+use Rattle.rows.specs.Said.{Sized, Laid, Held}
+use Rattle.rows.proofs.Words.{rows-are}
+use Rattle.tick.proofs.Chain.{time-word, idle-word}
+
+module _ (words : List ℕ) where
+  table-rows : length (tasksOf (stateOf words .rows)) ≡ getD words 0 0
+  table-rows = tasks-length (stateOf words .rows) ∙ rows-are words
+
+  pub length-off : (length words ≡ 579 → ⊥) → false ≡ savedWell words
+  unfolding savedWell
+  length-off h = sym (rw (ne-eqb (length words) 579 h))
+
+  module _ (long : length words ≡ 579) where
+    pub rows-off : within 1 32 (getD words 0 0) ≡ false → false ≡ savedWell words
+    unfolding savedWell stateWell tableWell
+    rows-off e = sym (rw (eq-eqb (length words) 579 long, table-rows, e))
+
+    module _ (rows : within 1 32 (getD words 0 0) ≡ true) where
+      pub sized : Sized words (getD words 0 0)
+      sized = record { long = long; total = sym (rows-are words); few = within-high 1 32 (getD words 0 0) rows }
+
+      pub table-off : eqb (faulty (tasksOf (stateOf words .rows))) (getD words 0 0) ≡ false → false ≡ savedWell words
+      unfolding savedWell stateWell tableWell
+      table-off e = sym (rw (eq-eqb (length words) 579 long, table-rows, rows, e))
+
+      module _ (clean : eqb (faulty (tasksOf (stateOf words .rows))) (getD words 0 0) ≡ true) where
+        pub time-off : clockEnd < getD words 1 0 → false ≡ savedWell words
+        unfolding savedWell stateWell tableWell
+        time-off h =
+            sym (rw (eq-eqb (length words) 579 long, table-rows, rows, clean, lt-leb (stateOf words .time) clockEnd (rw (time-word words) at h)))
+
+        module _ (early : getD words 1 0 ≤ clockEnd) where
+          in-time : leb (stateOf words .time) clockEnd ≡ true
+          in-time = le-leb (stateOf words .time) clockEnd (rw (time-word words) at early)
+
+          pub idle-off : getD words 1 0 < getD words 2 0 → false ≡ savedWell words
+          unfolding savedWell stateWell tableWell
+          idle-off h =
+              sym
+              (rw (eq-eqb (length words) 579 long, table-rows, rows, clean, in-time, lt-leb (stateOf words .idle) (stateOf words .time) (rw (time-word words, idle-word words) at h)))
+
+          module _ (idle : getD words 2 0 ≤ getD words 1 0) where
+            in-idle : leb (stateOf words .idle) (stateOf words .time) ≡ true
+            in-idle = le-leb (stateOf words .idle) (stateOf words .time) (rw (time-word words, idle-word words) at idle)
+
+            pub row-off : every (rowWell (getD words 1 0)) (stateOf words .rows) ≡ false → false ≡ savedWell words
+            unfolding savedWell stateWell tableWell
+            row-off e =
+                sym
+                (rw (eq-eqb (length words) 579 long, table-rows, rows, clean, in-time, in-idle, rw (time-word words) at e))
+
+            pub all-on : every (rowWell (getD words 1 0)) (stateOf words .rows) ≡ true
+                → every (λ w. eqb w 0) (drop (3 + getD words 0 0 * 18) words) ≡ savedWell words
+            unfolding savedWell stateWell tableWell
+            all-on e =
+                sym
+                (rw (eq-eqb (length words) 579 long, table-rows, rows, clean, in-time, in-idle, rw (time-word words) at e))
+
+-- words that pass are the words of a well-formed state
+pub saved-held : (words : List ℕ) → savedWell words ≡ true → Held 0 words
+unfolding savedWell
+saved-held words e =
+    let long = eqb-true (length words) 579 (both-left _ _ e) in
+    let rest = both-right (eqb (length words) 579) _ e in
+    let s = state-facts (stateOf words) (both-left _ _ rest) in
+    let few : getD words 0 0 ≤ 32 = omega (arith, s .table .rows-high, table-rows words) in
+    record {
+      laid =
+          record {
+            is = saved-laid words long few (both-right (stateWell (stateOf words)) _ rest);
+            few = omega (arith, rows-are words);
+          };
+      sound = s;
+    }
+
+-- a run by its cases
+module _ (words : List ℕ) (n : ℕ) where
+  pub run-ill : savedWell words ≡ false → (runAnswer words n ≡ refused 14 []) × (runWords words n ≡ words)
+  unfolding runAnswer runWords
+  run-ill e = (rw e, rw e)
+
+  module _ (good : savedWell words ≡ true) where
+    pub run-past : clockEnd < getD words 1 0 + n → (runAnswer words n ≡ refused 15 []) × (runWords words n ≡ words)
+    unfolding runAnswer runWords
+    run-past h = let e = lt-leb (getD words 1 0 + n) clockEnd h in (rw (good, e), rw (good, e))
+
+    pub run-done : getD words 1 0 + n ≤ clockEnd → (runAnswer words n ≡ accepted []) × (runWords words n ≡ laid (run n (stateOf words)))
+    unfolding runAnswer runWords
+    run-done h = let e = le-leb (getD words 1 0 + n) clockEnd h in (rw (good, e), rw (good, e))
+
+-- a fresh state by its cases
+module _ (table room : List ℕ) where
+  pub fresh-unchecked : (n : ℕ) (also : List ℕ) → checked table ≡ refused n also
+      → (freshAnswer table (length room) ≡ refused n also) × (freshWords table room ≡ room)
+  unfolding freshAnswer freshWords
+  fresh-unchecked n also e = (rw e, rw e)
+
+  module _ (vs : List ℕ) (good : checked table ≡ accepted vs) where
+    pub fresh-short : length room < 579 → (freshAnswer table (length room) ≡ refused 13 []) × (freshWords table room ≡ room)
+    unfolding freshAnswer freshWords
+    fresh-short h = let e = lt-leb 579 (length room) h in (rw (good, e), rw (good, e))
+
+    pub fresh-laid : 579 ≤ length room
+        → (freshAnswer table (length room) ≡ accepted (length (tableOf table) ∷ [])) × (freshWords table room ≡ laid (fresh (tableOf table)) ++ drop 579 room)
+    unfolding freshAnswer freshWords
+    fresh-laid h = let e = le-leb 579 (length room) h in (rw (good, e), rw (good, e))

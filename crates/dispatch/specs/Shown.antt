@@ -1,0 +1,16 @@
+-- How the enums `Ran` and `Started` are read as answers: a run gives nothing more, a fresh state its number of rows.
+use mathlib.Core.List.{[], _∷_}
+use Rattle.law.specs.Refusal.{Answer, accepted}
+use Rattle.refusal.specs.Shown.{shown}
+use Rattle.dispatch.specs.declared.run.Ran.{Ran}
+use Rattle.dispatch.specs.declared.run.Ran.the-variants.{Done, Refused}
+use Rattle.dispatch.specs.declared.start.Started.{Started}
+use Rattle.dispatch.specs.declared.start.Started.the-variants.{Rows, Refused as StartRefused}
+
+abbrev pub ranShown : Ran → Answer
+ranShown Done = accepted []
+ranShown (Refused r) = shown r
+
+abbrev pub startedShown : Started → Answer
+startedShown (Rows n) = accepted (n ∷ [])
+startedShown (StartRefused r) = shown r

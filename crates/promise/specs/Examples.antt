@@ -1,0 +1,83 @@
+-- Document 01, "Examples on each side of a limit": P1 to P12 as one table, each case with what the definitions must give.
+use mathlib.Core.Bool.{Bool, true, false}
+use mathlib.Core.List.{List, [], _∷_, _++_}
+use Prim.Native.Nat.{ℕ, zero, suc, _-_}
+use lib.ListN.{length, take, replicate}
+use Rattle.law.specs.Sums.{pick}
+use Rattle.law.specs.Refusal.{Answer, accepted, refused}
+use Rattle.law.specs.Pattern.{mandatory}
+use Rattle.law.specs.Table.{tableOf}
+use Rattle.law.specs.Verdict.{verdict, verdictRoom}
+use Rattle.law.specs.Tick.{Outcome, nothing, met, missed}
+use Rattle.law.specs.Promise.{after, settling}
+
+-- What an example asks: which of the first n jobs of (m,k) are mandatory; the verdict on words, with a room of 32 words; the idle count after n
+-- ticks from fresh; what becomes of row i at time u.
+pub data Example : Type 0 where
+  jobs : ℕ → ℕ → ℕ → Example
+  judged : List ℕ → Example
+  idle : List ℕ → ℕ → Example
+  settled : List ℕ → ℕ → ℕ → Example
+
+unfoldable pub mandatoryBelow : ℕ → ℕ → ℕ → List ℕ
+mandatoryBelow m k zero = []
+mandatoryBelow m k (suc n) = mandatoryBelow m k n ++ pick (mandatory m k n) (n ∷ []) []
+
+-- a refusal's number and what is also returned; or 0 and the response times
+unfoldable pub verdictShown : Answer → List ℕ → List ℕ
+verdictShown (accepted vs) times = 0 ∷ times
+verdictShown (refused n also) times = n ∷ also
+
+unfoldable pub outcomeShown : Outcome → ℕ
+outcomeShown nothing = 0
+outcomeShown met = 1
+outcomeShown missed = 2
+
+unfoldable pub shown : Example → List ℕ
+shown (jobs m k n) = mandatoryBelow m k n
+shown (judged words) = verdictShown (verdict words 32) (take (length (tableOf words)) (verdictRoom words (replicate 32 0)))
+shown (idle words n) = after (tableOf words) n .idle ∷ []
+shown (settled words i u) = outcomeShown (settling (after (tableOf words) (u - 1)) i) ∷ []
+
+-- a row of words, the id first
+abbrev pub rowWith : ℕ → ℕ → ℕ → ℕ → ℕ → ℕ → List ℕ
+rowWith id c t d m k = id ∷ c ∷ t ∷ d ∷ m ∷ k ∷ []
+
+-- 0, .., n - 1
+unfoldable pub upTo : ℕ → List ℕ
+upTo zero = []
+upTo (suc n) = upTo n ++ (n ∷ [])
+
+pub record Case : Type 0 where
+  pub example : Example
+  pub expected : List ℕ
+
+abbrev pub gives : Example → List ℕ → Case
+gives e l = record { example = e; expected = l }
+
+unfoldable pub cases : List Case
+cases =
+    -- P1 (2,3): of jobs 0..5, jobs 0, 1, 3, 4. P2 (3,5): of 0..9, jobs 0, 1, 3, 5, 6, 8
+    gives (jobs 2 3 6) (0 ∷ 1 ∷ 3 ∷ 4 ∷ [])
+    ∷ gives (jobs 3 5 10) (0 ∷ 1 ∷ 3 ∷ 5 ∷ 6 ∷ 8 ∷ [])
+    -- P3 (1,64): of 0..64, jobs 0 and 64. P4 (63,64): of 0..63, all but 63
+    ∷ gives (jobs 1 64 65) (0 ∷ 64 ∷ [])
+    ∷ gives (jobs 63 64 64) (upTo 63)
+    -- P5 the table above: responses 2 and 6. P6 the same with C 5 in row 1: refusal 11, row 1
+    ∷ gives (judged (rowWith 11 2 4 4 1 2 ++ rowWith 12 4 6 6 2 3)) (0 ∷ 2 ∷ 6 ∷ [])
+    ∷ gives (judged (rowWith 11 2 4 4 1 2 ++ rowWith 12 5 6 6 2 3)) (11 ∷ 1 ∷ [])
+    -- P7: responses 2 and 4. P8 the same with C 3 in row 1: 11, row 1
+    ∷ gives (judged (rowWith 1 2 4 4 1 1 ++ rowWith 2 2 5 5 1 1)) (0 ∷ 2 ∷ 4 ∷ [])
+    ∷ gives (judged (rowWith 1 2 4 4 1 1 ++ rowWith 2 3 5 5 1 1)) (11 ∷ 1 ∷ [])
+    -- P9 one row 1,1,1,1,1: response 1, never idle
+    ∷ gives (judged (rowWith 1 1 1 1 1 1)) (0 ∷ 1 ∷ [])
+    ∷ gives (idle (rowWith 1 1 1 1 1 1) 64) (0 ∷ [])
+    -- P10 one row 2,4,1,1,1: 11, row 0; in a run job 0 is missed at time 1
+    ∷ gives (judged (rowWith 1 2 4 1 1 1)) (11 ∷ 0 ∷ [])
+    ∷ gives (settled (rowWith 1 2 4 1 1 1) 0 1) (2 ∷ [])
+    -- P11 no words: 2; seven words: 1
+    ∷ gives (judged []) (2 ∷ [])
+    ∷ gives (judged (rowWith 1 1 1 1 1 1 ++ (1 ∷ []))) (1 ∷ [])
+    -- P12 row 0 with k 65, row 1 with id 0: 8, row 0
+    ∷ gives (judged (rowWith 1 1 1 1 1 65 ++ rowWith 0 1 1 1 1 1)) (8 ∷ 0 ∷ [])
+    ∷ []
