@@ -1,6 +1,8 @@
 //! The comparisons, part by part.
 
+mod dispatch;
 mod pattern;
+mod promise;
 mod table;
 mod verdict;
 
@@ -27,7 +29,12 @@ impl Comparison {
 
 /// Every comparison, in the order in which they run.
 pub fn all() -> impl Iterator<Item = &'static Comparison> {
-    [pattern::ALL, table::ALL, verdict::ALL]
-        .into_iter()
-        .flatten()
+    let parts = [
+        pattern::ALL,
+        table::ALL,
+        verdict::ALL,
+        dispatch::ALL,
+        promise::ALL,
+    ];
+    parts.into_iter().flatten()
 }

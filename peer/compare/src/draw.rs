@@ -1,10 +1,12 @@
 //! Further drawn cases, beside those of [`peer::gen`].
 
 mod limit;
+mod states;
 mod tables;
 
-pub use limit::{full_table, limit_pair, slow_table, LimitPair, Shape};
-pub use tables::{damaged, faults_in, off_six, rubbish, sound, FAULTS};
+pub use limit::{full_table, limit_pair, short_cycle_pair, slow_table, LimitPair, Shape};
+pub use states::{every_bit, row_counts, state_lengths, state_room, state_room_of, ticks};
+pub use tables::{any_table, damaged, faults_in, off_six, rubbish, run_table, sound, FAULTS};
 
 use peer::rng::Rng;
 

@@ -26,6 +26,10 @@ unsafe extern "C" {
     safe fn gp_word(m: u32, k: u32) -> CAnswer;
     fn gp_check(words: *const u32, n: usize) -> CAnswer;
     fn gp_verdict(words: *const u32, n: usize, room: *mut u32, room_n: usize) -> CAnswer;
+    fn gp_fresh(table: *const u32, n: usize, room: *mut u64, room_n: usize) -> CAnswer;
+    fn gp_well(state: *const u64, n: usize) -> CAnswer;
+    fn gp_tick(state: *mut u64, n: usize) -> CAnswer;
+    fn gp_run(state: *mut u64, n: usize, ticks: u32) -> CAnswer;
 }
 
 /// "A question about one job takes m, k and any 32-bit job number."
@@ -58,11 +62,41 @@ pub fn verdict(words: &[u32], room: &mut [u32]) -> Answer {
     unsafe { gp_verdict(words.as_ptr(), words.len(), place, length) }.into()
 }
 
+/// The fresh state of a table, laid into the first 579 words of the room.
+#[inline]
+pub fn fresh(table: &[u32], room: &mut [u64]) -> Answer {
+    let (place, length) = (room.as_mut_ptr(), room.len());
+    // SAFETY: as in [`verdict`].
+    unsafe { gp_fresh(table.as_ptr(), table.len(), place, length) }.into()
+}
+
+/// Whether the words are a well-formed state.
+#[inline]
+pub fn well(state: &[u64]) -> Answer {
+    // SAFETY: as in [`check`].
+    unsafe { gp_well(state.as_ptr(), state.len()) }.into()
+}
+
+/// One tick on a saved state.
+#[inline]
+pub fn tick(state: &mut [u64]) -> Answer {
+    // SAFETY: a slice's pointer is aligned and never null, and its words, being
+    // borrowed mutably, are this call's alone.
+    unsafe { gp_tick(state.as_mut_ptr(), state.len()) }.into()
+}
+
+/// A run of so many ticks on a saved state.
+#[inline]
+pub fn run(state: &mut [u64], ticks: u32) -> Answer {
+    // SAFETY: as in [`tick`].
+    unsafe { gp_run(state.as_mut_ptr(), state.len(), ticks) }.into()
+}
+
 /// [`check`] on words whose surroundings are watched.
 ///
 /// A shared slice would let the compiler take it that the words stay as they
 /// are; a [`Lent`] does not, so a table altered in the call is seen.
-pub fn check_lent(words: &mut Lent) -> Answer {
+pub fn check_lent(words: &mut Lent<u32>) -> Answer {
     let (place, length) = (words.pointer(), words.len());
     // SAFETY: the pointer is aligned and not null, and the whole of the lent
     // buffer, the words on both sides included, is this call's alone.
@@ -70,10 +104,39 @@ pub fn check_lent(words: &mut Lent) -> Answer {
 }
 
 /// [`verdict`] on a table and a room whose surroundings are watched.
-pub fn verdict_lent(words: &mut Lent, room: &mut Lent) -> Answer {
+pub fn verdict_lent(words: &mut Lent<u32>, room: &mut Lent<u32>) -> Answer {
     let (table, table_length) = (words.pointer(), words.len());
     let (place, length) = (room.pointer(), room.len());
     // SAFETY: both pointers are aligned and not null, they lead into two
     // buffers, and the whole of each is this call's alone.
     unsafe { gp_verdict(table, table_length, place, length) }.into()
+}
+
+/// [`fresh`] on a table and a room whose surroundings are watched.
+pub fn fresh_lent(table: &mut Lent<u32>, room: &mut Lent<u64>) -> Answer {
+    let (words, words_length) = (table.pointer(), table.len());
+    let (place, length) = (room.pointer(), room.len());
+    // SAFETY: as in [`verdict_lent`].
+    unsafe { gp_fresh(words, words_length, place, length) }.into()
+}
+
+/// [`well`] on words whose surroundings are watched.
+pub fn well_lent(state: &mut Lent<u64>) -> Answer {
+    let (place, length) = (state.pointer(), state.len());
+    // SAFETY: as in [`check_lent`].
+    unsafe { gp_well(place, length) }.into()
+}
+
+/// [`tick`] on words whose surroundings are watched.
+pub fn tick_lent(state: &mut Lent<u64>) -> Answer {
+    let (place, length) = (state.pointer(), state.len());
+    // SAFETY: as in [`check_lent`].
+    unsafe { gp_tick(place, length) }.into()
+}
+
+/// [`run`] on words whose surroundings are watched.
+pub fn run_lent(state: &mut Lent<u64>, ticks: u32) -> Answer {
+    let (place, length) = (state.pointer(), state.len());
+    // SAFETY: as in [`check_lent`].
+    unsafe { gp_run(place, length, ticks) }.into()
 }

@@ -1,36 +1,62 @@
 //! Words lent to the first program, with watched words on both sides.
 
+use peer::dispatch::STATE_WORDS;
 use peer::rng::Rng;
 use peer::table::ROWS_MAX;
 
 /// Watched words before the run, at least.
 const BEFORE: usize = 8;
 
-/// Watched words after it: more than the rows of the longest table, so that an
-/// answer written to a room without any space is still caught here.
-const AFTER: usize = ROWS_MAX + 8;
+/// Words of the two widths that are lent.
+pub trait Word: Copy + PartialEq {
+    /// Watched words after the run: more than the longest answer in such words,
+    /// so that one written to a room without any space is still caught here.
+    const AFTER: usize;
+
+    /// A word out of 64 drawn bits.
+    fn of_bits(bits: u64) -> Self;
+}
+
+/// Tables, and rooms for response times.
+impl Word for u32 {
+    const AFTER: usize = ROWS_MAX + 8;
+
+    fn of_bits(bits: u64) -> u32 {
+        bits as u32
+    }
+}
+
+/// Saved states, and rooms for them.
+impl Word for u64 {
+    const AFTER: usize = STATE_WORDS + 8;
+
+    fn of_bits(bits: u64) -> u64 {
+        bits
+    }
+}
 
 /// "No refusal alters a lent word or byte, an accepted call alters only the
 /// room its answer fills": a run of words inside a larger buffer, so that what
 /// is written beside the run can be found.
-pub struct Lent {
-    buffer: Vec<u32>,
+pub struct Lent<W> {
+    buffer: Vec<W>,
     start: usize,
     len: usize,
     /// The watched words follow from this number.
     key: u64,
 }
 
-impl Lent {
+impl<W: Word> Lent<W> {
     /// Lends a copy of the words. The run begins at a drawn distance, so that
     /// nothing leans on an alignment of more than one word.
-    pub fn new(rng: &mut Rng, words: &[u32]) -> Lent {
+    pub fn new(rng: &mut Rng, words: &[W]) -> Lent<W> {
         let key = rng.bits();
         let (start, len) = (BEFORE + rng.index(4), words.len());
-        let mut buffer = Vec::with_capacity(start + len + AFTER);
-        buffer.extend((0..start).map(|at| watched(key, at)));
+        let end = start + len;
+        let mut buffer = Vec::with_capacity(end + W::AFTER);
+        buffer.extend((0..start).map(|at| watched::<W>(key, at)));
         buffer.extend_from_slice(words);
-        buffer.extend((start + len..start + len + AFTER).map(|at| watched(key, at)));
+        buffer.extend((end..end + W::AFTER).map(|at| watched::<W>(key, at)));
         Lent {
             buffer,
             start,
@@ -41,7 +67,7 @@ impl Lent {
 
     /// Where the run begins. The pointer is the whole buffer's: a write beside
     /// the run is a fault to be reported, and must not be undefined here.
-    pub fn pointer(&mut self) -> *mut u32 {
+    pub fn pointer(&mut self) -> *mut W {
         self.buffer.as_mut_ptr().wrapping_add(self.start)
     }
 
@@ -55,13 +81,13 @@ impl Lent {
     }
 
     /// The run as it now stands.
-    pub fn words(&self) -> &[u32] {
+    pub fn words(&self) -> &[W] {
         &self.buffer[self.start..self.start + self.len]
     }
 
     /// The words on both sides that are not what they were: each with its place,
     /// counted from the run's first word, and what now stands there.
-    pub fn altered_beside(&self) -> Vec<(isize, u32)> {
+    pub fn altered_beside(&self) -> Vec<(isize, W)> {
         let end = self.start + self.len;
         let sides = (0..self.start).chain(end..self.buffer.len());
         let altered = sides.filter(|&at| self.buffer[at] != watched(self.key, at));
@@ -70,12 +96,12 @@ impl Lent {
     }
 
     /// Whether the run now holds these words and nothing beside it was altered.
-    pub fn holds(&self, expected: &[u32]) -> bool {
+    pub fn holds(&self, expected: &[W]) -> bool {
         self.words() == expected && self.altered_beside().is_empty()
     }
 }
 
 /// The watched word at a place: rubbish, so that no likely answer passes for it.
-fn watched(key: u64, at: usize) -> u32 {
-    Rng::new(key.wrapping_add(at as u64)).bits() as u32
+fn watched<W: Word>(key: u64, at: usize) -> W {
+    W::of_bits(Rng::new(key.wrapping_add(at as u64)).bits())
 }

@@ -338,17 +338,12 @@ pub fn run(state: &mut State, n: u32) -> Answer {
 /// The same run, and at every tick the chosen row is shown to `watch`, or
 /// `None` when the tick is idle.
 pub fn run_watched(state: &mut State, n: u32, mut watch: impl FnMut(Option<usize>)) -> Answer {
-    if !well_formed(state) {
-        return Answer::refused(refusal::STATE);
-    }
-    let Some(end) = state.time.checked_add(n) else {
-        return Answer::refused(refusal::CLOCK);
+    let end = match end_of_run(state, n) {
+        Ok(end) => end,
+        Err(answer) => return answer,
     };
     let rows = &mut state.row[..state.rows as usize];
-    let mut patterns = [0; ROWS_MAX];
-    for (word, row) in patterns.iter_mut().zip(rows.iter()) {
-        *word = pattern::entry(row.m, row.k);
-    }
+    let patterns = patterns_of(rows);
     let mut bits = Bits::of(rows);
     let mut idle = state.idle;
     for _ in 0..n {
@@ -359,6 +354,89 @@ pub fn run_watched(state: &mut State, n: u32, mut watch: impl FnMut(Option<usize
     state.idle = idle;
     state.time = end;
     Answer::accepted(0)
+}
+
+/// The time after a run, or its refusal: "For a run: 14, 15."
+fn end_of_run(state: &State, n: u32) -> Result<u32, Answer> {
+    if !well_formed(state) {
+        return Err(Answer::refused(refusal::STATE));
+    }
+    let end = state.time.checked_add(n);
+    end.ok_or(Answer::refused(refusal::CLOCK))
+}
+
+/// Each row's word out of the pattern book.
+fn patterns_of(rows: &[Row]) -> [u64; ROWS_MAX] {
+    let mut patterns = [0; ROWS_MAX];
+    for (word, row) in patterns.iter_mut().zip(rows) {
+        *word = pattern::entry(row.m, row.k);
+    }
+    patterns
+}
+
+/// The same run, plainly: three loops over the rows in every tick, and nothing
+/// kept beside them but the pattern words.
+pub fn run_plain(state: &mut State, n: u32) -> Answer {
+    let end = match end_of_run(state, n) {
+        Ok(end) => end,
+        Err(answer) => return answer,
+    };
+    let rows = &mut state.row[..state.rows as usize];
+    let patterns = patterns_of(rows);
+    let mut idle = state.idle;
+    for _ in 0..n {
+        release_due(rows, &patterns);
+        let chosen = chosen_of(rows);
+        work_and_settle(rows, chosen);
+        idle += u32::from(chosen.is_none());
+    }
+    state.idle = idle;
+    state.time = end;
+    Answer::accepted(0)
+}
+
+/// Step 1 of a plain tick: "Every row with wait 0 releases its next job".
+#[inline]
+fn release_due(rows: &mut [Row], patterns: &[u64; ROWS_MAX]) {
+    for (row, &pattern) in rows.iter_mut().zip(patterns) {
+        if row.wait == 0 {
+            release(row, pattern);
+        }
+    }
+}
+
+/// Step 2 of a plain tick: "Among live jobs the mandatory one of the highest
+/// row is chosen; if there is none, the optional one of the highest row".
+#[inline]
+fn chosen_of(rows: &[Row]) -> Option<usize> {
+    let mut optional = None;
+    for (at, row) in rows.iter().enumerate() {
+        if row.is_live() {
+            if row.kind == 1 {
+                return Some(at);
+            }
+            optional = optional.or(Some(at));
+        }
+    }
+    optional
+}
+
+/// Steps 3 and 4 of a plain tick: "The chosen job loses one unit of work", every
+/// wait and the ticks left of every live job fall by one, and jobs are settled.
+#[inline]
+fn work_and_settle(rows: &mut [Row], chosen: Option<usize>) {
+    for (at, row) in rows.iter_mut().enumerate() {
+        row.wait -= 1;
+        if row.is_live() {
+            row.left -= 1;
+            if chosen == Some(at) {
+                row.work -= 1;
+            }
+            if row.work == 0 || row.left == 0 {
+                settle(row);
+            }
+        }
+    }
 }
 
 /// One tick, refused as a run of one is: "a tick is defined on each such state

@@ -4,7 +4,10 @@
 //!
 //! The second program's job question is called, not inlined, so that both pay
 //! for one call.
+//!
+//! `--slow` adds a run of 100,000,000 ticks of the first program.
 
+use std::env;
 use std::hint::black_box;
 use std::process::ExitCode;
 use std::time::Instant;
@@ -12,6 +15,8 @@ use std::time::Instant;
 use compare::draw::{full_table, Shape};
 use compare::ffi;
 use peer::answer::Answer;
+use peer::dispatch::{fresh_words, from_words, run, run_plain, run_words, to_words};
+use peer::dispatch::{well_formed_words, State, STATE_WORDS};
 use peer::pattern;
 use peer::rng::Rng;
 use peer::table::ROWS_MAX;
@@ -31,9 +36,31 @@ const QUESTIONS: usize = 1 << 14;
 /// Tables of each shape.
 const TABLES: usize = 8;
 
+/// Ticks of one run, for each of the tables.
+const TICKS: u32 = 100_000;
+
+/// Rows of the tables for fresh states, for well-formed ones and the long run.
+const ROWS: usize = 8;
+
+/// Ticks of the long run.
+const LONG_TICKS: u32 = 100_000_000;
+
 type Verdict = fn(&[u32], &mut [u32]) -> Answer;
 
+type Run = fn(&mut State, u32) -> Answer;
+
+type Saved = [u64; STATE_WORDS];
+
 fn main() -> ExitCode {
+    let words: Vec<String> = env::args().skip(1).collect();
+    let slow = match words.as_slice() {
+        [] => false,
+        [word] if word == "--slow" => true,
+        _ => {
+            eprintln!("usage: bench [--slow]");
+            return ExitCode::from(2);
+        }
+    };
     let mut rng = Rng::new(SEED);
     let mut alike = jobs(&mut rng);
     for rows in [4, 16, 32] {
@@ -41,6 +68,11 @@ fn main() -> ExitCode {
             alike &= verdicts(&mut rng, rows, d_max);
         }
     }
+    for rows in [2, 8, 32] {
+        alike &= ticks(&mut rng, rows);
+    }
+    alike &= fresh(&mut rng) && well(&mut rng);
+    alike &= !slow || long_run(&mut rng);
     match alike {
         true => ExitCode::SUCCESS,
         false => ExitCode::FAILURE,
@@ -161,4 +193,131 @@ fn verdicts(rng: &mut Rng, rows: usize, d_max: u32) -> bool {
         line(&name, TABLES, &mut ours, &mut peer);
     }
     true
+}
+
+/// Tables as above, periods from 4 to 40 ticks for each row: jobs are released
+/// neither in every tick nor seldom.
+fn busy_tables(rng: &mut Rng, rows: usize) -> Vec<Vec<u32>> {
+    tables(rng, rows, 40 * rows as u32)
+}
+
+/// The first program's fresh states.
+fn begun(tables: &[Vec<u32>]) -> Vec<Saved> {
+    let state = |words: &Vec<u32>| {
+        let mut room = [0; STATE_WORDS];
+        ffi::fresh(words, &mut room);
+        room
+    };
+    tables.iter().map(state).collect()
+}
+
+/// Ticks of a run from fresh, against the second program's plain loops and
+/// against its bit sets, and the states they end in.
+fn ticks(rng: &mut Rng, rows: usize) -> bool {
+    let starts = begun(&busy_tables(rng, rows));
+    let peers: [(&str, Run); 2] = [("plain", run_plain), ("bitsets", run)];
+    let alike = |(name, peer)| {
+        let name = format!("tick_{rows}_rows_{name}");
+        timed_ticks(&name, &starts, peer)
+    };
+    peers.into_iter().all(alike)
+}
+
+fn timed_ticks(name: &str, starts: &[Saved], peer: Run) -> bool {
+    let read = |words: &Saved| from_words(words);
+    let Some(peer_starts) = starts.iter().map(read).collect::<Option<Vec<_>>>() else {
+        println!("bench {name} no states");
+        return false;
+    };
+    let (mut states, mut peer_states) = (starts.to_vec(), peer_starts.clone());
+    let mut ours = || {
+        states.copy_from_slice(black_box(starts));
+        for state in &mut states {
+            black_box(ffi::run(state, TICKS));
+        }
+    };
+    let mut theirs = || {
+        peer_states.clone_from_slice(black_box(&peer_starts));
+        for state in &mut peer_states {
+            black_box(peer(state, TICKS));
+        }
+    };
+    line(name, TABLES * TICKS as usize, &mut ours, &mut theirs);
+    let ended = |(state, peer): (&Saved, &State)| peer.time == TICKS && *state == to_words(peer);
+    let alike = states.iter().zip(&peer_states).all(ended);
+    if !alike {
+        println!("bench {name} states {states:?} peer {peer_states:?}");
+    }
+    alike
+}
+
+/// The fresh state of a table, into a room of its length.
+fn fresh(rng: &mut Rng) -> bool {
+    let tables = busy_tables(rng, ROWS);
+    let laid = |lay: &dyn Fn(&[u32], &mut [u64]) -> Answer, words: &[u32]| {
+        let mut room = [1; STATE_WORDS];
+        (lay(words, &mut room), room)
+    };
+    for words in &tables {
+        let (ours, peer) = (laid(&ffi::fresh, words), laid(&fresh_words, words));
+        if ours != peer || !ours.0.is_accepted() {
+            println!("bench fresh {words:?} ours {ours:?} peer {peer:?}");
+            return false;
+        }
+    }
+    let (mut room, mut peer_room) = ([0; STATE_WORDS], [0; STATE_WORDS]);
+    let mut ours = || {
+        for words in black_box(&tables) {
+            black_box((ffi::fresh(words, &mut room), &room));
+        }
+    };
+    let mut peer = || {
+        for words in black_box(&tables) {
+            black_box((fresh_words(words, &mut peer_room), &peer_room));
+        }
+    };
+    line("fresh", TABLES, &mut ours, &mut peer);
+    true
+}
+
+/// Whether words are a well-formed state, as these are after a run.
+fn well(rng: &mut Rng) -> bool {
+    let mut states = begun(&busy_tables(rng, ROWS));
+    for state in &mut states {
+        ffi::run(state, TICKS);
+        let (ours, peer) = (ffi::well(state), well_formed_words(state));
+        if ours != peer || !ours.is_accepted() {
+            println!("bench well {state:?} ours {ours:?} peer {peer:?}");
+            return false;
+        }
+    }
+    let mut ours = || {
+        for state in black_box(&states) {
+            black_box(ffi::well(state));
+        }
+    };
+    let mut peer = || {
+        for state in black_box(&states) {
+            black_box(well_formed_words(state));
+        }
+    };
+    line("well", TABLES, &mut ours, &mut peer);
+    true
+}
+
+/// One long run of the first program. The second one makes it as well, untimed,
+/// and the states are compared.
+fn long_run(rng: &mut Rng) -> bool {
+    let starts = begun(&busy_tables(rng, ROWS));
+    let (mut ours, mut peer) = (starts[0], starts[0]);
+    let began = Instant::now();
+    let answer = ffi::run(&mut ours, LONG_TICKS);
+    let seconds = began.elapsed().as_secs_f64();
+    println!("bench run_100_million_ticks ours {seconds:.2} s");
+    let ran = answer.is_accepted() && answer == run_words(&mut peer, LONG_TICKS);
+    let alike = ran && ours == peer;
+    if !alike {
+        println!("bench run_100_million_ticks {answer:?} {ours:?} peer {peer:?}");
+    }
+    alike
 }

@@ -1,12 +1,11 @@
 //! "A task table": well formed or not, through the check and the verdict.
 
-use peer::gen::faulty_table;
 use peer::table::{check, ROWS_MAX, ROW_WORDS};
 
 use super::verdict::same_verdict;
 use super::Comparison;
 use crate::course::{shown, Compared, Course};
-use crate::draw::{damaged, faults_in, room, rubbish, sound, EDGES, FAULTS};
+use crate::draw::{any_table, faults_in, room, sound, EDGES, FAULTS};
 use crate::ffi;
 use crate::lent::Lent;
 
@@ -146,23 +145,10 @@ fn fault_sets(course: &mut Course) -> Compared {
     Ok(())
 }
 
-/// Tables with faults drawn by both generators, sound ones and rubbish.
+/// Tables with faults, sound ones and rubbish.
 fn drawn(course: &mut Course) -> Compared {
     for _ in 0..DRAWN {
-        let rng = &mut course.rng;
-        let words = match rng.below(8) {
-            0..=2 => faulty_table(rng),
-            3 => rubbish(rng),
-            kind => {
-                let rows = 1 + rng.index(ROWS_MAX);
-                let well = sound(rng, rows, T_SHORT);
-                if kind == 4 {
-                    well
-                } else {
-                    damaged(rng, well)
-                }
-            }
-        };
+        let words = any_table(&mut course.rng, T_SHORT);
         same_table(course, &words)?;
     }
     Ok(())

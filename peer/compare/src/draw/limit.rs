@@ -27,8 +27,22 @@ pub struct LimitPair {
 
 /// Costs grow all together until just admitted, then one row's alone.
 pub fn limit_pair(rng: &mut Rng, shape: Shape) -> LimitPair {
-    let mut words = light(rng, shape);
-    let shares: Vec<u64> = (0..shape.rows).map(|_| rng.between(1, 16)).collect();
+    let words = light(rng, shape);
+    pair_of(rng, words)
+}
+
+/// The same for tables of so many rows whose patterns and periods soon begin
+/// again together: the least common multiple of all k x T is at most 576 for
+/// each row.
+pub fn short_cycle_pair(rng: &mut Rng, rows: usize) -> LimitPair {
+    let words = light_short_cycle(rng, rows);
+    pair_of(rng, words)
+}
+
+/// The pair that comes of rows with the least cost.
+fn pair_of(rng: &mut Rng, mut words: Vec<u32>) -> LimitPair {
+    let rows = words.len() / ROW_WORDS;
+    let shares: Vec<u64> = (0..rows).map(|_| rng.between(1, 16)).collect();
     let costs_at = |scale: u32, words: &mut [u32]| {
         for (row, share) in words.chunks_exact_mut(ROW_WORDS).zip(&shares) {
             // Of a period's ticks, so many 65,536ths.
@@ -38,7 +52,7 @@ pub fn limit_pair(rng: &mut Rng, shape: Shape) -> LimitPair {
     };
     let scale = last_admitted(0, WORD_MAX, &mut words, costs_at);
     costs_at(scale, &mut words);
-    let row = rng.index(shape.rows);
+    let row = rng.index(rows);
     grow(&mut words, row);
     let mut past = words.clone();
     past[row * ROW_WORDS + 1] += 1;
@@ -111,6 +125,24 @@ fn light(rng: &mut Rng, shape: Shape) -> Vec<u32> {
         rows.sort_by_key(|row| row[3]);
     }
     rows.concat()
+}
+
+/// Rows of least cost, each T four ticks for each row times a divisor of 12, and
+/// each k a divisor of 12.
+fn light_short_cycle(rng: &mut Rng, rows: usize) -> Vec<u32> {
+    let mut words = Vec::with_capacity(rows * ROW_WORDS);
+    for id in 1..=rows as u32 {
+        let factor = rng.choose(&[1, 2, 3, 4, 6]).unwrap_or(1);
+        let t = 4 * rows as u32 * factor;
+        let d = if rng.once_in(3) {
+            rng.word(t / 2 + 1, t)
+        } else {
+            t
+        };
+        let k = rng.choose(&[1, 2, 3, 4, 6, 12]).unwrap_or(1);
+        words.extend([id, 1, t, d, rng.word(1, k), k]);
+    }
+    words
 }
 
 /// The largest number up to `high` with which the table is admitted. Loads

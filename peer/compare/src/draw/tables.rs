@@ -1,9 +1,10 @@
 //! Tables with any number of rows, and words that are no table.
 
+use peer::gen::{faulty_table, loaded_table, table, tiny_table};
 use peer::rng::Rng;
 use peer::table::{ROWS_MAX, ROW_WORDS, WORD_MAX};
 
-use super::EDGES;
+use super::{limit_pair, Shape, EDGES};
 
 /// Places of the words of a row: "id, C, T, D, m, k".
 const ID: usize = 0;
@@ -33,6 +34,52 @@ pub fn sound(rng: &mut Rng, rows: usize, t_max: u32) -> Vec<u32> {
         ]);
     }
     words
+}
+
+/// Tables with faults drawn by both generators, sound ones and rubbish; of the
+/// sound ones no period is above `t_max`.
+pub fn any_table(rng: &mut Rng, t_max: u32) -> Vec<u32> {
+    match rng.below(8) {
+        0..=2 => faulty_table(rng),
+        3 => rubbish(rng),
+        kind => {
+            let rows = 1 + rng.index(ROWS_MAX);
+            let well = sound(rng, rows, t_max);
+            if kind == 4 {
+                well
+            } else {
+                damaged(rng, well)
+            }
+        }
+    }
+}
+
+/// A well-formed table to be run, "admitted or not": most of them near full
+/// load, and one in four on one side or the other of the limit.
+pub fn run_table(rng: &mut Rng) -> Vec<u32> {
+    match rng.below(8) {
+        0..=2 => loaded_table(rng),
+        3 => tiny_table(rng),
+        4 => table(rng),
+        5 => {
+            let rows = 1 + rng.index(ROWS_MAX);
+            sound(rng, rows, 60)
+        }
+        kind => {
+            let rows = 1 + rng.index(ROWS_MAX);
+            let shape = Shape {
+                rows,
+                t_low: 4 * rows as u32,
+                t_high: 20 * rows as u32,
+            };
+            let pair = limit_pair(rng, shape);
+            if kind == 6 {
+                pair.within
+            } else {
+                pair.past
+            }
+        }
+    }
 }
 
 /// One to five faults laid into a table, in any order and anywhere: fields at

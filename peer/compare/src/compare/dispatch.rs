@@ -1,0 +1,239 @@
+//! "One tick": fresh states, which states are well formed, ticks and runs, each
+//! state compared whole.
+
+mod fresh;
+mod runs;
+mod states;
+mod ticks;
+
+use peer::answer::Answer;
+use peer::dispatch::{run_words, tick_words, well_formed_words};
+use peer::dispatch::{HEAD_WORDS, SAVED_ROW_WORDS};
+use peer::rng::Rng;
+
+use super::Comparison;
+use crate::course::{shown, Compared, Course, Difference};
+use crate::ffi;
+use crate::lent::Lent;
+
+pub const ALL: &[Comparison] = &[
+    Comparison {
+        name: "dispatch_fresh_lengths",
+        drawn: true,
+        due: &[0, 1, 2, 3, 4, 13],
+        run: fresh::lengths,
+    },
+    Comparison {
+        name: "dispatch_fresh_rooms",
+        drawn: true,
+        due: &[0, 4, 13],
+        run: fresh::rooms,
+    },
+    Comparison {
+        name: "dispatch_fresh_drawn",
+        drawn: true,
+        due: &[0, 1, 2, 3, 4, 5, 6, 7, 8, 9, 10, 13],
+        run: fresh::drawn,
+    },
+    Comparison {
+        name: "dispatch_states_lengths",
+        drawn: true,
+        due: &[0, 14],
+        run: states::lengths,
+    },
+    Comparison {
+        name: "dispatch_states_rows",
+        drawn: true,
+        due: &[0, 14],
+        run: states::rows,
+    },
+    Comparison {
+        name: "dispatch_states_fields",
+        drawn: true,
+        due: &[0, 14, 15],
+        run: states::fields,
+    },
+    Comparison {
+        name: "dispatch_states_bits",
+        drawn: true,
+        due: &[0, 14, 15],
+        run: states::bits,
+    },
+    Comparison {
+        name: "dispatch_states_scrambled",
+        drawn: true,
+        due: &[0, 14, 15],
+        run: states::scrambled,
+    },
+    Comparison {
+        name: "dispatch_ticks_fresh",
+        drawn: true,
+        due: &[0],
+        run: ticks::from_fresh,
+    },
+    Comparison {
+        name: "dispatch_ticks_drawn",
+        drawn: true,
+        due: &[0, 15],
+        run: ticks::drawn,
+    },
+    Comparison {
+        name: "dispatch_runs_drawn",
+        drawn: true,
+        due: &[0, 15],
+        run: runs::drawn,
+    },
+    Comparison {
+        name: "dispatch_runs_clock_end",
+        drawn: true,
+        due: &[0, 14, 15],
+        run: runs::clock_end,
+    },
+    Comparison {
+        name: "dispatch_runs_pieces",
+        drawn: true,
+        due: &[0],
+        run: runs::pieces,
+    },
+    Comparison {
+        name: "dispatch_runs_long",
+        drawn: true,
+        due: &[0],
+        run: runs::long,
+    },
+];
+
+/// What can be asked of a saved state.
+#[derive(Clone, Copy, Debug)]
+enum Call {
+    Well,
+    Tick,
+    Run(u32),
+}
+
+impl Call {
+    fn first(self, state: &mut Lent<u64>) -> Answer {
+        match self {
+            Call::Well => ffi::well_lent(state),
+            Call::Tick => ffi::tick_lent(state),
+            Call::Run(n) => ffi::run_lent(state, n),
+        }
+    }
+
+    fn peer(self, state: &mut [u64]) -> Answer {
+        match self {
+            Call::Well => well_formed_words(state),
+            Call::Tick => tick_words(state),
+            Call::Run(n) => run_words(state, n),
+        }
+    }
+}
+
+/// The words of one state, lent to the first program and kept for the second.
+struct Both {
+    first: Lent<u64>,
+    peer: Vec<u64>,
+}
+
+impl Both {
+    fn new(rng: &mut Rng, words: &[u64]) -> Both {
+        Both {
+            first: Lent::new(rng, words),
+            peer: words.to_vec(),
+        }
+    }
+
+    /// Whether every word is the same, and nothing beside them was altered.
+    fn alike(&self) -> bool {
+        self.first.holds(&self.peer)
+    }
+
+    /// One call on each side: the answers, and the states handed back.
+    fn call(&mut self, course: &mut Course, call: Call) -> Compared {
+        let before = self.peer.clone();
+        let first = call.first(&mut self.first);
+        let peer = call.peer(&mut self.peer);
+        let same = first == peer && self.alike();
+        course.settle(peer, same, || {
+            let (first, peer, apart) = (shown(first), shown(peer), self.apart());
+            let before = state_shown(&before);
+            format!("{call:?} on {before}\nfirst {first}\npeer  {peer}\n{apart}")
+        })
+    }
+
+    /// The words that are not the same, and those altered beside them.
+    fn apart(&self) -> String {
+        let words = self.first.words().iter().zip(&self.peer).enumerate();
+        let apart = words.filter(|(_, (first, peer))| first != peer);
+        let apart = apart.map(|(at, (first, peer))| {
+            let name = word_name(at);
+            format!("word {at}, {name}: first {first} peer {peer}\n")
+        });
+        let beside = self.first.altered_beside();
+        format!(
+            "{}altered beside the state {beside:?}",
+            apart.collect::<String>()
+        )
+    }
+}
+
+/// A call on the words as they are.
+fn same_call(course: &mut Course, words: &[u64], call: Call) -> Compared {
+    Both::new(&mut course.rng, words).call(course, call)
+}
+
+/// A saved state as a difference shows it.
+fn state_shown(words: &[u64]) -> String {
+    let last = words.iter().rposition(|&word| word != 0);
+    let to_last = &words[..last.map_or(0, |at| at + 1)];
+    let (length, zeros) = (words.len(), words.len() - to_last.len());
+    format!("{length} words, {zeros} zeros after {to_last:?}")
+}
+
+/// What stands at a place of a saved state.
+fn word_name(at: usize) -> String {
+    const HEAD: [&str; HEAD_WORDS] = ["rows", "time", "idle"];
+    const ROW: [&str; SAVED_ROW_WORDS] = [
+        "id", "c", "t", "d", "m", "k", "wait", "place", "work", "left", "kind", "window",
+        "released", "mm", "mx", "om", "ox", "broken",
+    ];
+    match at.checked_sub(HEAD_WORDS) {
+        None => HEAD[at].to_string(),
+        Some(past) => {
+            let (row, word) = (past / SAVED_ROW_WORDS, past % SAVED_ROW_WORDS);
+            format!("row {row} {}", ROW[word])
+        }
+    }
+}
+
+/// The idle ticks and the settled and broken counts that runs from fresh came
+/// to: a comparison in which one of them stayed 0 says nothing about it.
+#[derive(Default)]
+struct Counted {
+    idle: u64,
+    /// mm, mx, om, ox, broken
+    rows: [u64; 5],
+}
+
+impl Counted {
+    fn add(&mut self, words: &[u64]) {
+        let (head, rows) = words.split_at(HEAD_WORDS);
+        self.idle += head[HEAD_WORDS - 1];
+        for row in rows.chunks_exact(SAVED_ROW_WORDS) {
+            let counts = &row[SAVED_ROW_WORDS - self.rows.len()..];
+            for (sum, count) in self.rows.iter_mut().zip(counts) {
+                *sum += count;
+            }
+        }
+    }
+
+    fn reached(&self) -> Compared {
+        let Counted { idle, rows } = self;
+        if *idle > 0 && rows.iter().all(|&count| count > 0) {
+            return Ok(());
+        }
+        Err(Difference(format!(
+            "a count was never reached: idle {idle}, mm mx om ox broken {rows:?}"
+        )))
+    }
+}
