@@ -9,7 +9,7 @@ use native.Mathlib.Nat.{add-suc, add-zero, suc-mul, zero-mul, zero-add, div-add-
 use native.Mathlib.Omega.{arith}
 use lib.Dec.{leb, eqb}
 use lib.ListN.{length, getD, set, take, drop, replicate, length-append, length-replicate, length-set, length-drop, getD-replicate, replicate-append-replicate, List·getD-append}
-use lib.Seq.{sets, sets-eq, getD-append-add, getD-drop, ext-getD, take-append-add, drop-append-add}
+use lib.Seq.{sets, sets-eq, set-getD, getD-set-same, getD-set-other, getD-append-add, getD-drop, ext-getD, take-append-add, drop-append-add}
 use borrow.Author.Tests.{eqb-true}
 use Rattle.law.specs.Sums.{bit, both, every, build}
 use Rattle.law.specs.Table.{taskOf}
@@ -162,6 +162,76 @@ laid-put s i r few h =
     ∙ ap (λ (z : ℕ). take (suc (suc (suc (i * 18)))) (laid s) ++ (wordsOf r ++ drop z (laid s))) f
     ∙ ap (λ (z : List ℕ). length (s .rows) ∷ s .time ∷ s .idle ∷ z) (rows-set (s .rows) (nothing-after (length (s .rows))) i r h)
     ∙ ap (λ (z : ℕ). z ∷ s .time ∷ s .idle ∷ (rowsLaid (set (s .rows) i r) ++ nothing-after z)) (sym (length-set (s .rows) i r))
+
+over : (n l : ℕ) → n + suc l ≡ suc n + l
+over n l = omega arith
+
+-- values that stand there already change nothing
+sets-same : (words : List ℕ) (b n : ℕ) (vs : List ℕ) → ((l : ℕ) → l < length vs → getD vs l 0 ≡ getD words (b + (n + l)) 0) → setsFrom words b n vs ≡ words
+unfolding setsFrom
+sets-same words b n [] h = refl
+sets-same words b n (v ∷ vs) h =
+    let e : set words (b + n) v ≡ words = ap (set words (b + n)) (h 0 (omega arith) ∙ ap (λ (z : ℕ). getD words (b + z) 0) (add-zero n)) ∙ set-getD words (b + n) 0 in
+    ap (λ (z : List ℕ). setsFrom z b (suc n) vs) e
+    ∙ sets-same words b (suc n) vs (λ l q. h (suc l) (omega arith) ∙ ap (λ (z : ℕ). getD words (b + z) 0) (over n l))
+
+-- of values that stand there already but for one, only that one is stored
+sets-one : (words : List ℕ) (b n : ℕ) (vs : List ℕ) (j v : ℕ) → j < length vs → ((l : ℕ) → l < length vs → getD vs l 0 ≡ getD words (b + (n + l)) 0)
+    → setsFrom words b n (set vs j v) ≡ set words (b + (n + j)) v
+unfolding setsFrom
+sets-one words b n [] j v q h = absurd (omega arith)
+sets-one words b n (x ∷ vs) zero v q h =
+    sets-same (set words (b + n) v) b (suc n) vs
+    (λ l p. h (suc l) (omega arith) ∙ ap (λ (z : ℕ). getD words (b + z) 0) (over n l) ∙ sym (getD-set-other words (b + n) (b + (suc n + l)) v 0 (omega arith)))
+    ∙ ap (λ (z : ℕ). set words (b + z) v) (sym (add-zero n))
+sets-one words b n (x ∷ vs) (suc j) v q h =
+    let e : set words (b + n) x ≡ words = ap (set words (b + n)) (h 0 (omega arith) ∙ ap (λ (z : ℕ). getD words (b + z) 0) (add-zero n)) ∙ set-getD words (b + n) 0 in
+    ap (λ (z : List ℕ). setsFrom z b (suc n) (set vs j v)) e
+    ∙ sets-one words b (suc n) vs j v (omega arith) (λ l p. h (suc l) (omega arith) ∙ ap (λ (z : ℕ). getD words (b + z) 0) (over n l))
+    ∙ ap (λ (z : ℕ). set words (b + z) v) (sym (over n j))
+
+-- one word of a row
+pub laid-put-word : (s : State) (i j v : ℕ) (r : Row) → length (s .rows) ≤ 32 → i < length (s .rows) → j < 18
+    → wordsOf r ≡ set (wordsOf (getD (s .rows) i noRow)) j v → set (laid s) (i * 18 + (3 + j)) v ≡ laid (withRow s i r)
+laid-put-word s i j v r few h l e =
+    let q = getD (s .rows) i noRow in
+    sym (sets-one (laid s) (i * 18) 3 (wordsOf q) j v (omega (arith, row-length q)) (λ n p. sym (laid-word s i n h (omega (arith, row-length q)))))
+    ∙ ap (setsFrom (laid s) (i * 18) 3) (sym e) ∙ laid-put s i r few h
+
+-- a row with another wait, work and time left
+abbrev pub going : Row → ℕ → ℕ → ℕ → Row
+going r wait work left =
+    record {
+      core = record { task = r .core .task; wait = wait; place = r .core .place; work = work; left = left; kind = r .core .kind };
+      tally = r .tally;
+    }
+
+set-twice : {A : Type 0} (l : List A) (i : ℕ) (x y : A) → set (set l i x) i y ≡ set l i y
+set-twice [] i x y = refl
+set-twice (z ∷ l) zero x y = refl
+set-twice (z ∷ l) (suc i) x y = ap (λ (q : List _). z ∷ q) (set-twice l i x y)
+
+-- its three words
+pub laid-going : (s : State) (i wait work left : ℕ) → length (s .rows) ≤ 32 → i < length (s .rows)
+    → set (set (set (laid s) (i * 18 + 9) wait) (i * 18 + 11) work) (i * 18 + 12) left ≡ laid (withRow s i (going (getD (s .rows) i noRow) wait work left))
+unfolding wordsOf
+laid-going s i wait work left few h =
+    let r = getD (s .rows) i noRow in
+    let a = going r wait (r .core .work) (r .core .left) in
+    let b = going r wait work (r .core .left) in
+    let c = going r wait work left in
+    let sa = withRow s i a in
+    let sb = withRow sa i b in
+    let ra : getD (sa .rows) i noRow ≡ a = getD-set-same (s .rows) i a noRow h in
+    let la : length (sa .rows) ≡ length (s .rows) = length-set (s .rows) i a in
+    let lb : length (sb .rows) ≡ length (sa .rows) = length-set (sa .rows) i b in
+    let rb : getD (sb .rows) i noRow ≡ b = getD-set-same (sa .rows) i b noRow (omega arith) in
+    ap (λ (z : List ℕ). set (set z (i * 18 + 11) work) (i * 18 + 12) left) (laid-put-word s i 6 wait a few h (omega arith) refl)
+    ∙ ap (λ (z : List ℕ). set z (i * 18 + 12) left)
+    (laid-put-word sa i 8 work b (omega arith) (omega arith) (omega arith) (ap (λ (z : Row). set (wordsOf z) 8 work) (sym ra)))
+    ∙ laid-put-word sb i 9 left c (omega arith) (omega arith) (omega arith) (ap (λ (z : Row). set (wordsOf z) 9 left) (sym rb))
+    ∙ ap (λ (z : List Row). laid (record { time = s .time; idle = s .idle; rows = z }))
+    (set-twice (sa .rows) i b c ∙ set-twice (s .rows) i a c)
 
 -- ---- words and the state that they say
 

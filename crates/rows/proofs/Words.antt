@@ -1,7 +1,7 @@
 -- The words of a state in the code's hands: their number, a row read, a row put, and the same words again after each.
 use mathlib.Core.List.{List}
 use mathlib.Core.Path.{_≡_, refl, sym, ap, _∙_, subst}
-use Prim.Native.Nat.{ℕ, _*_, _≤_, _<_}
+use Prim.Native.Nat.{ℕ, _+_, _*_, _≤_, _<_}
 use native.Mathlib.Omega.{arith}
 use lib.ListN.{length, getD, set, length-set}
 use lib.Seq.{set-getD}
@@ -12,7 +12,7 @@ use Rattle.law.specs.State.{rowAt, stateOf, wordsOf, laid, setsFrom, withRow, t
 use Rattle.law.proofs.Ticks.{task-at}
 use Rattle.law.specs.Sound.{SoundState}
 use Rattle.law.proofs.First.{build-length, build-at}
-use Rattle.law.proofs.Laid.{laid-length, laid-put, state-laid}
+use Rattle.law.proofs.Laid.{laid-length, laid-put, laid-put-word, laid-going, state-laid, going}
 use Rattle.rows.specs.Said.{Sized, Laid, Held}
 
 pub words-long : {words : List ℕ} → Laid words → length words ≡ 579
@@ -37,6 +37,18 @@ pub row-put : {words : List ℕ} (l : Laid words) (i : ℕ) (r : Row) → i < le
     → setsFrom words (i * 18) 3 (wordsOf r) ≡ laid (withRow (stateOf words) i r)
 row-put {words} l i r h =
     ap (λ (z : List ℕ). setsFrom z (i * 18) 3 (wordsOf r)) (l .is) ∙ laid-put (stateOf words) i r (l .few) h
+
+-- its wait alone, and its wait, work and time left
+pub wait-put : {words : List ℕ} (l : Laid words) (i wait : ℕ) (r : Row) → i < length (stateOf words .rows)
+    → wordsOf r ≡ set (wordsOf (getD (stateOf words .rows) i noRow)) 6 wait → set words (i * 18 + 9) wait ≡ laid (withRow (stateOf words) i r)
+wait-put {words} l i wait r h e =
+    ap (λ (z : List ℕ). set z (i * 18 + 9) wait) (l .is) ∙ laid-put-word (stateOf words) i 6 wait r (l .few) h (omega arith) e
+
+pub going-put : {words : List ℕ} (l : Laid words) (i wait work left : ℕ) → i < length (stateOf words .rows)
+    → set (set (set words (i * 18 + 9) wait) (i * 18 + 11) work) (i * 18 + 12) left ≡ laid (withRow (stateOf words) i (going (getD (stateOf words .rows) i noRow) wait work left))
+going-put {words} l i wait work left h =
+    ap (λ (z : List ℕ). set (set (set z (i * 18 + 9) wait) (i * 18 + 11) work) (i * 18 + 12) left) (l .is)
+    ∙ laid-going (stateOf words) i wait work left (l .few) h
 
 -- a row put back as it was changes nothing
 pub row-kept : {words : List ℕ} (l : Laid words) (i : ℕ) (r : Row) → r ≡ getD (stateOf words .rows) i noRow

@@ -1,7 +1,7 @@
 // Where a row stands among the words of a state: the number of rows, the time and the idle count come first, then eighteen words a row.
 ghost use mathlib.Core.Path.{_≡_};
 ghost use Prim.Native.Nat.{_+_, _*_, _<_};
-ghost use lib.ListN.{length, getD};
+ghost use lib.ListN.{length, getD, set};
 ghost use Rattle.law.specs.State.{rowAt, setsFrom, wordsOf};
 ghost use Rattle.table.specs.Said.{taskSaid};
 ghost use Rattle.tally.specs.Said.{tallySaid};
@@ -112,4 +112,23 @@ pub fn put_row(words: &mut [u64], i: usize, r: Row)
     words[at + 18] = r.tally.om;
     words[at + 19] = r.tally.ox;
     words[at + 20] = r.tally.broken;
+}
+
+// Another wait, word 6 of row i.
+pub fn put_wait(words: &mut [u64], i: usize, wait: u64)
+    requires { ⌜ (length (now words) ≡ 579) × (i < 32) ⌝ }
+    ensures { λ _. ⌜ now (words .exit) ≡ set (now (words .entry)) (i * 18 + 9) wait ⌝ }
+{
+    words[i * STRIDE + 9] = wait;
+}
+
+// Another wait, work and time left of row i: the words that a tick which settles nothing there changes.
+pub fn put_going(words: &mut [u64], i: usize, wait: u64, work: u64, left: u64)
+    requires { ⌜ (length (now words) ≡ 579) × (i < 32) ⌝ }
+    ensures { λ _. ⌜ now (words .exit) ≡ set (set (set (now (words .entry)) (i * 18 + 9) wait) (i * 18 + 11) work) (i * 18 + 12) left ⌝ }
+{
+    let at = i * STRIDE;
+    words[at + 9] = wait;
+    words[at + 11] = work;
+    words[at + 12] = left;
 }

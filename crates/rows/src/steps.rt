@@ -50,7 +50,7 @@ pub fn released(r: Row, pattern: u64) -> Row
 }
 
 // The work that is left of a row that is chosen or not.
-fn worked(work: u64, chosen: bool) -> u64
+pub fn worked(work: u64, chosen: bool) -> u64
     ensures { λ r. ⌜ r ≡ work - bit chosen ⌝ }
 {
     if chosen {

@@ -11,10 +11,13 @@ ghost use Rattle.rows.specs.Said.{Timed, Laid, Held, Fetched, advancedState, co
 
 pub mod patterns;
 
+use rows::put_going;
 use rows::put_row;
+use rows::put_wait;
 use rows::row_at;
 use rows::steps::advanced;
 use rows::steps::released;
+use rows::steps::worked;
 use rows::word;
 
 // The number of rows, the first word of a state.
@@ -37,13 +40,37 @@ fn release_one(words: &mut [u64], i: usize, pattern: u64)
     put_row(words, i, released(r, pattern));
 }
 
-// Steps 3 and 4 for row i.
-fn advance_one(words: &mut [u64], i: usize, chosen: bool)
+// Steps 3 and 4 for row i, the whole row.
+fn settle_one(words: &mut [u64], i: usize, chosen: bool)
     requires { ⌜ (Laid (now words)) × (i < length (stateOf (now words) .rows)) × (Timed 1 (getD (stateOf (now words) .rows) i noRow)) ⌝ }
     ensures { λ _. ⌜ now (words .exit) ≡ laid (withRow (stateOf (now (words .entry))) i (advanceRow chosen (getD (stateOf (now (words .entry)) .rows) i noRow))) ⌝ }
 {
     let r = row_at(words, i);
     put_row(words, i, advanced(r, chosen));
+}
+
+// Steps 3 and 4 for row i. Most rows settle nothing in most ticks: these change at most three words, 6, 8 and 9 of a row.
+fn advance_one(words: &mut [u64], i: usize, chosen: bool)
+    requires { ⌜ (Laid (now words)) × (i < length (stateOf (now words) .rows)) × (Timed 1 (getD (stateOf (now words) .rows) i noRow)) ⌝ }
+    ensures { λ _. ⌜ now (words .exit) ≡ laid (withRow (stateOf (now (words .entry))) i (advanceRow chosen (getD (stateOf (now (words .entry)) .rows) i noRow))) ⌝ }
+{
+    let wait = word(words, i, 6) - 1;
+    let work = word(words, i, 8);
+    if work == 0 {
+        put_wait(words, i, wait);
+        return;
+    }
+    let rest = worked(work, chosen);
+    if rest == 0 {
+        settle_one(words, i, chosen);
+        return;
+    }
+    let left = word(words, i, 9);
+    if left == 1 {
+        settle_one(words, i, chosen);
+        return;
+    }
+    put_going(words, i, wait, rest, left - 1);
 }
 
 // Whether a job with that work left and that kind is live and mandatory.
