@@ -16,3 +16,4 @@ pub mod Ticks
 pub mod Units
 pub mod Fresh
 pub mod Examples
+pub mod TextExamples

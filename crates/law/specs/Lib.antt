@@ -7,3 +7,5 @@ pub mod Tick
 pub mod State
 pub mod Sound
 pub mod Promise
+pub mod Text
+pub mod Reading

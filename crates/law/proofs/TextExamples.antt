@@ -1,0 +1,30 @@
+-- Task text by examples: document 01's table read and written, and texts with a fault at a known place.
+use mathlib.Core.List.{List, [], _∷_, _++_}
+use mathlib.Core.Path.{_≡_, refl}
+use Prim.Native.Nat.{ℕ, _+_}
+use lib.ListN.{length, take}
+use Rattle.law.specs.Sums.{firstFrom, build, every}
+use Rattle.law.specs.Refusal.{Answer, accepted, refused, within}
+use Rattle.law.specs.Table.{taskOf, tableOf, repeated, faultOf, faulty, rowsChecked, checked}
+use Rattle.law.specs.Text.{rowKeys, keysOf, isDigit, numberFrom, lines}
+use Rattle.law.specs.Reading.{keyLength, digitsLength, valueLength, valueOfLength, valueAt, lineAt, linesAt, rowsAt, textRead, readAnswer, wordsRead, decimalOf, decimal, textOf, writeAnswer}
+
+-- the words of document 01's table, and its text
+words : List ℕ
+words = 11 ∷ 2 ∷ 4 ∷ 4 ∷ 1 ∷ 2 ∷ 12 ∷ 4 ∷ 6 ∷ 6 ∷ 2 ∷ 3 ∷ []
+
+text : List ℕ
+text =
+    114 ∷ 111 ∷ 119 ∷ 115 ∷ 61 ∷ 50 ∷ 10 ∷ 105 ∷ 100 ∷ 61 ∷ 49 ∷ 49 ∷ 10 ∷ 99 ∷ 61 ∷ 50 ∷ 10 ∷ 116 ∷ 61 ∷ 52 ∷ 10 ∷ 100 ∷ 61 ∷ 52 ∷ 10 ∷ 109 ∷ 61 ∷ 49 ∷ 10 ∷ 107 ∷ 61 ∷ 50 ∷ 10 ∷ 105 ∷ 100 ∷ 61 ∷ 49 ∷ 50 ∷ 10 ∷ 99 ∷ 61 ∷ 52 ∷ 10 ∷ 116 ∷ 61 ∷ 54 ∷ 10 ∷ 100 ∷ 61 ∷ 54 ∷ 10 ∷ 109 ∷ 61 ∷ 50 ∷ 10 ∷ 107 ∷ 61 ∷ 51 ∷ 10 ∷ []
+
+text-read : readAnswer text 12 ≡ accepted (2 ∷ [])
+unfolding readAnswer text keyLength digitsLength valueLength valueOfLength valueAt lineAt linesAt rowsAt firstFrom isDigit within numberFrom keysOf rowsChecked tableOf taskOf build faulty faultOf repeated
+text-read = refl
+
+text-words : wordsRead text ≡ words
+unfolding wordsRead words textRead text keyLength digitsLength valueLength valueOfLength valueAt lineAt linesAt rowsAt firstFrom isDigit within numberFrom keysOf
+text-words = refl
+
+text-written : textOf rowKeys words ≡ text
+unfolding textOf words text decimal decimalOf lines keysOf
+text-written = refl
