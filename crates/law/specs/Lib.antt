@@ -9,3 +9,4 @@ pub mod Sound
 pub mod Promise
 pub mod Text
 pub mod Reading
+pub mod Report

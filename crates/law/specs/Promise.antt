@@ -2,12 +2,12 @@
 use mathlib.Core.Bool.{Bool, true, false}
 use mathlib.Core.List.{List}
 use mathlib.Core.Path.{_≡_}
-use Prim.Native.Nat.{ℕ, zero, suc, _+_, _-_, _*_, _/_, _%_, _^_, _≤_, _<_}
+use Prim.Native.Nat.{ℕ, _+_, _-_, _*_, _/_, _%_, _^_, _≤_, _<_}
 use lib.Dec.{leb, ltb, eqb}
 use lib.ListN.{length, getD}
 use Rattle.law.specs.Sums.{bit, pick, firstFrom, among}
 use Rattle.law.specs.Table.{Task, row, kindOf}
-use Rattle.law.specs.Verdict.{response, misfit, admitted}
+use Rattle.law.specs.Verdict.{response, admitted}
 use Rattle.law.specs.Tick.{Row, Tally, State, Outcome, nothing, met, missed, coreAt, noRow, live, outcome, choose, fullLength, releaseAll, fresh, run, marks}
 
 -- the state after t ticks from fresh

@@ -1,13 +1,13 @@
 -- Document 01, "Task text" and "Refusal numbers", as a reader meets them: line by line, with the place after it, or the place of a fault; and the
 -- answers of reading and of writing. That the place is the one of the rule (chapter Text) is proved in proofs/TextPlace.
-use mathlib.Core.Bool.{Bool, true, false, not}
+use mathlib.Core.Bool.{not}
 use mathlib.Core.List.{List, [], _∷_, _++_, map}
 use Prim.Native.Nat.{ℕ, zero, suc, _+_, _/_, _%_}
 use lib.Dec.{leb, ltb, eqb}
 use lib.ListN.{length, getD, take, drop}
 use Rattle.law.specs.Sums.{both, pick, first}
 use Rattle.law.specs.Refusal.{Answer, accepted, refused, orRefused, after, lent, head}
-use Rattle.law.specs.Table.{width, tableOf, rowsChecked, checked}
+use Rattle.law.specs.Table.{tableOf, rowsChecked, checked}
 use Rattle.law.specs.Text.{rowsKey, rowKeys, keysOf, isDigit, numberOf, lines}
 
 -- What a reader finds: the values of the lines it read and the place after them, or the place of a fault.

@@ -1,13 +1,13 @@
 -- Document 01, "One tick", its last paragraphs: which states are well formed, a run with its refusals, and a saved state as words.
-use mathlib.Core.Bool.{Bool, true, false, not}
+use mathlib.Core.Bool.{Bool, not}
 use mathlib.Core.List.{List, [], _∷_, _++_, map}
 use Prim.Native.Nat.{ℕ, zero, suc, _+_, _-_, _*_, _^_}
 use lib.Dec.{leb, ltb, eqb}
 use lib.ListN.{length, getD, set, drop, replicate}
 use Rattle.law.specs.Sums.{bit, both, pick, every, build}
 use Rattle.law.specs.Refusal.{Answer, accepted, refused, orRefused, after, lent, within}
-use Rattle.law.specs.Table.{Task, width, taskOf, tableOf, faulty, checked}
-use Rattle.law.specs.Tick.{Core, Tally, Row, State, live, run, fresh, clockEnd}
+use Rattle.law.specs.Table.{Task, taskOf, tableOf, faulty, checked}
+use Rattle.law.specs.Tick.{Core, Tally, Row, State, noRow, live, spare, run, fresh, clockEnd}
 
 -- "the four settled counts"
 abbrev pub settledCounts : Tally → ℕ
@@ -85,6 +85,10 @@ rowOf word =
 abbrev pub rowAt : List ℕ → ℕ → Row
 rowAt words i = rowOf (λ j. getD words (i * rowWords + (headWords + j)) 0)
 
+-- the counts of a row and its spare
+abbrev pub countWords : ℕ
+countWords = 7
+
 -- the state that words say
 unfoldable pub stateOf : List ℕ → State
 stateOf words =
@@ -150,6 +154,27 @@ runAnswer words n =
 -- "a run of 0 changes nothing"; "a refused run hands back the state it got"
 unfoldable pub runWords : List ℕ → ℕ → List ℕ
 runWords words n = lent (runAnswer words n) (laid (run n (stateOf words))) words
+
+-- a row's counts and its spare, in the order in which they are printed
+unfoldable pub countsOf : Row → List ℕ
+countsOf r =
+    r .tally .released
+    ∷ r .tally .mm
+    ∷ r .tally .mx
+    ∷ r .tally .om
+    ∷ r .tally .ox
+    ∷ r .tally .broken
+    ∷ spare (r .core .task .m) (r .core .task .k) (r .tally .window)
+    ∷ []
+
+-- the counts of row i of a saved state, laid into a lent room: 14, then 13. Where there is no row i, all are 0
+unfoldable pub countsAnswer : List ℕ → ℕ → Answer
+countsAnswer words room =
+    orRefused (savedWell words) (refused 14 []) (orRefused (leb countWords room) (refused 13 []) (accepted []))
+
+unfoldable pub countsRoom : List ℕ → ℕ → List ℕ → List ℕ
+countsRoom words i room =
+    lent (countsAnswer words (length room)) (countsOf (getD (stateOf words .rows) i noRow) ++ drop countWords room) room
 
 -- the fresh state of a table of words, laid into a lent room: refusals of the table, then 13
 unfoldable pub freshAnswer : List ℕ → ℕ → Answer

@@ -1,12 +1,12 @@
--- Document 01, "One tick": the state, the four steps in their order, a run, and which states are well formed.
+-- Document 01, "One tick": the state, the four steps in their order, a run.
 use mathlib.Core.Bool.{Bool, true, false, not}
-use mathlib.Core.List.{List, [], _∷_, _++_, map}
+use mathlib.Core.List.{List, map}
 use Prim.Native.Nat.{ℕ, zero, suc, _+_, _-_, _*_, _%_, _/_, _^_}
-use lib.Dec.{leb, ltb, eqb}
+use lib.Dec.{ltb, eqb}
 use lib.ListN.{length, getD}
 use Rattle.law.specs.Sums.{bit, both, pick, sum, first, mapFrom, among}
 use Rattle.law.specs.Refusal.{within}
-use Rattle.law.specs.Table.{Task, noTask, kindOf, rowFault}
+use Rattle.law.specs.Table.{Task, noTask, kindOf}
 
 -- "ticks until its next release (wait), the next job's place in its pattern, the live job's work left, ticks left to its deadline and kind"
 pub record Core : Type 0 where
