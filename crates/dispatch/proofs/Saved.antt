@@ -10,8 +10,8 @@ use borrow.Author.Tests.{le-leb, lt-leb, eq-eqb, ne-eqb, eqb-true, leb-true}
 use Rattle.law.specs.Sums.{both, every}
 use Rattle.law.specs.Refusal.{Answer, accepted, refused, within}
 use Rattle.law.specs.Table.{faulty, tableOf, checked}
-use Rattle.law.specs.Tick.{run, fresh, clockEnd}
-use Rattle.law.specs.State.{tasksOf, tableWell, rowWell, stateWell, stateOf, laid, savedWell, runAnswer, runWords, freshAnswer, freshWords}
+use Rattle.law.specs.Tick.{noRow, run, fresh, clockEnd}
+use Rattle.law.specs.State.{tasksOf, tableWell, rowWell, stateWell, stateOf, laid, savedWell, runAnswer, runWords, countsOf, countsAnswer, countsRoom, freshAnswer, freshWords}
 use Rattle.law.specs.Sound.{SoundState}
 use Rattle.law.proofs.Tests.{both-left, both-right}
 use Rattle.law.proofs.Question.{within-low, within-high}
@@ -106,6 +106,22 @@ module _ (words : List ℕ) (n : ℕ) where
     pub run-done : getD words 1 0 + n ≤ clockEnd → (runAnswer words n ≡ accepted []) × (runWords words n ≡ laid (run n (stateOf words)))
     unfolding runAnswer runWords
     run-done h = let e = le-leb (getD words 1 0 + n) clockEnd h in (rw (good, e), rw (good, e))
+
+-- the counts of a row by their cases
+module _ (words : List ℕ) (i : ℕ) (room : List ℕ) where
+  pub counts-ill : savedWell words ≡ false → (countsAnswer words (length room) ≡ refused 14 []) × (countsRoom words i room ≡ room)
+  unfolding countsAnswer countsRoom
+  counts-ill e = (rw e, rw e)
+
+  module _ (good : savedWell words ≡ true) where
+    pub counts-short : length room < 7 → (countsAnswer words (length room) ≡ refused 13 []) × (countsRoom words i room ≡ room)
+    unfolding countsAnswer countsRoom
+    counts-short h = let e = lt-leb 7 (length room) h in (rw (good, e), rw (good, e))
+
+    pub counts-laid : 7 ≤ length room
+        → (countsAnswer words (length room) ≡ accepted []) × (countsRoom words i room ≡ countsOf (getD (stateOf words .rows) i noRow) ++ drop 7 room)
+    unfolding countsAnswer countsRoom
+    counts-laid h = let e = le-leb 7 (length room) h in (rw (good, e), rw (good, e))
 
 -- a fresh state by its cases
 module _ (table room : List ℕ) where

@@ -1,7 +1,10 @@
--- How the enums `Ran` and `Started` are read as answers: a run gives nothing more, a fresh state its number of rows.
-use mathlib.Core.List.{[], _∷_}
+-- How the enums `Ran` and `Started` are read as answers: a run gives nothing more, a fresh state its number of rows. And a row's counts as the
+-- law's list.
+use mathlib.Core.List.{List, [], _∷_}
+use Prim.Native.Nat.{ℕ}
 use Rattle.law.specs.Refusal.{Answer, accepted}
 use Rattle.refusal.specs.Shown.{shown}
+use Rattle.dispatch.specs.declared.counts.Counts.{Counts}
 use Rattle.dispatch.specs.declared.run.Ran.{Ran}
 use Rattle.dispatch.specs.declared.run.Ran.the-variants.{Done, Refused}
 use Rattle.dispatch.specs.declared.start.Started.{Started}
@@ -14,3 +17,6 @@ ranShown (Refused r) = shown r
 abbrev pub startedShown : Started → Answer
 startedShown (Rows n) = accepted (n ∷ [])
 startedShown (StartRefused r) = shown r
+
+abbrev pub countsSaid : Counts → List ℕ
+countsSaid c = c .released ∷ c .mm ∷ c .mx ∷ c .om ∷ c .ox ∷ c .broken ∷ c .spare ∷ []
