@@ -4,7 +4,7 @@ ghost use lib.ListN.{length};
 ghost use Rattle.law.specs.Pattern.{question, pairWord};
 ghost use Rattle.law.specs.Table.{checked};
 ghost use Rattle.law.specs.Verdict.{verdict as verdictLaw, verdictRoom};
-ghost use Rattle.law.specs.State.{freshAnswer, freshWords, runAnswer, runWords, savedAnswer};
+ghost use Rattle.law.specs.State.{freshAnswer, freshWords, runAnswer, runWords, savedAnswer, countsAnswer, countsRoom};
 ghost use Rattle.refusal.specs.Shown.{shown};
 ghost use Rattle.dispatch.specs.Shown.{ranShown};
 ghost use Rattle.stand_c.specs.Numbered.{numbered};
@@ -151,4 +151,14 @@ pub extern "C" fn gp_run(state: &mut [u64], n: u32) -> Answer
     ensures state { λ a. ⌜ now (state .exit) ≡ runWords (now (state .entry)) n ⌝ }
 {
     ran(dispatch::run::run_words(state, n))
+}
+
+// The counts of one row of a saved state, in seven words of a room: released, mandatory met, mandatory missed, optional met, optional missed,
+// broken windows, spare. Where there is no such row, all are 0.
+#[no_mangle]
+pub extern "C" fn gp_counts(state: &[u64], row: u32, room: &mut [u64]) -> Answer
+    ensures answer { λ a. ⌜ a ≡ numbered (countsAnswer (now (state .entry)) (length (now (room .entry)))) ⌝ }
+    ensures room { λ a. ⌜ now (room .exit) ≡ countsRoom (now (state .entry)) row (now (room .entry)) ⌝ }
+{
+    ran(dispatch::counts::counts_words(state, row, room))
 }
