@@ -2,7 +2,6 @@
 ghost use mathlib.Core.Path.{_≡_};
 ghost use Prim.Native.Nat.{_<_, _≤_, _/_, _%_, _^_};
 ghost use lib.Dec.{eqb};
-ghost use lib.ListN.{getD};
 ghost use Rattle.law.specs.Pattern.{InRange, theBook, word, pairWord, question};
 ghost use Rattle.book.specs.Shown.{jobShown, wordShown};
 
@@ -25,21 +24,29 @@ pub enum Word {
     Refused(Refusal),
 }
 
-// The word at a place of the book. The constant is laid on the stack at each use: a run fetches its words once.
-fn word_at(place: usize) -> u64
-    requires { ⌜ place < 2080 ⌝ }
-    ensures { λ r. ⌜ r ≡ getD theBook place 0 ⌝ }
+// The whole book. The constant is laid on the stack at each use: who wants many words lays it once.
+pub fn the_book() -> [u64; 2080]
+    ensures { λ r. ⌜ r ≡ theBook ⌝ }
 {
-    BOOK[place]
+    BOOK
 }
 
-// The word of a pair.
-pub fn pattern(m: u64, k: u64) -> u64
-    requires { ⌜ InRange m k ⌝ }
+// The word of a pair in a book that is laid.
+pub fn word_in(book: &[u64; 2080], m: u64, k: u64) -> u64
+    requires { ⌜ (now book ≡ theBook) × (InRange m k) ⌝ }
     ensures { λ r. ⌜ r ≡ word m k ⌝ }
 {
     let place = k * (k - 1) / 2 + m - 1;
-    word_at(place as usize)
+    book[place as usize]
+}
+
+// The word of a pair.
+fn pattern(m: u64, k: u64) -> u64
+    requires { ⌜ InRange m k ⌝ }
+    ensures { λ r. ⌜ r ≡ word m k ⌝ }
+{
+    let book = the_book();
+    word_in(&book, m, k)
 }
 
 // Whether the job at a place of a pattern is mandatory: the place's bit, brought down by a shift.

@@ -13,6 +13,7 @@ use Rattle.law.specs.State.{rowOf, stateOf}
 use Rattle.law.specs.Table.{taskOf}
 use Rattle.rows.specs.Said.{Held, Fetched}
 use Rattle.rows.proofs.Words.{words-long, row-read}
+use borrow.Author.Needs.{needs}
 use Rattle.tick.proofs.patterns.fetch.Statement.{statement}
 use Rattle.tick.proofs.patterns.fetch.Tie as tie
 
@@ -48,37 +49,40 @@ module _ {words patterns : List ℕ} {n i : ℕ} (f : Fetching words patterns n 
       record { enough = omega (arith, f .long, f .held .laid .few); at = λ j l. f .done j (omega (arith, f .total)) }
 
 abbrev Inv-loop : tie.InvT-loop
-Inv-loop words rows patterns₀ i₀ patterns i = Fetching words patterns rows i
+Inv-loop words rows book patterns₀ i₀ patterns i = Fetching words patterns rows i
 
 abbrev μ-loop : tie.MeasureT-loop
-μ-loop words rows patterns₀ i₀ patterns i = rows - i
+μ-loop words rows book patterns₀ i₀ patterns i = rows - i
 
 -- the two words that were read are the row's m and k
 abbrev Turn : Type 0
 Turn = tie.After-word2 Inv-loop μ-loop
 
 abbrev words-in : Turn → List ℕ
-words-in c = c .before .before .before .before .before .before .args .words .now
+words-in c = c .before .before .before .before .before .before .before .before .args .words .now
 
-row-in : (c : Turn) → c .before .before .before .loop .i < length (stateOf (words-in c) .rows)
-row-in c = omega (arith, c .before .before .before .loop .inv .total, c .before .before .loop-test .taken)
+row-in : (c : Turn) → c .before .before .before .before .loop .i < length (stateOf (words-in c) .rows)
+row-in c = omega (arith, c .before .before .before .before .loop .inv .total, c .before .before .before .loop-test .taken)
 
-m-read : (c : Turn) → c .before .word .result ≡ coreAt (stateOf (words-in c) .rows) (c .before .before .before .loop .i) .task .m
+m-read : (c : Turn) → c .before .word .result ≡ coreAt (stateOf (words-in c) .rows) (c .before .before .before .before .loop .i) .task .m
 unfolding rowOf taskOf
 m-read c = c .before .word .ensures ∙ ap (λ (z : Row). z .core .task .m) (row-read _ _ (row-in c))
 
-k-read : (c : Turn) → c .word2 .result ≡ coreAt (stateOf (words-in c) .rows) (c .before .before .before .loop .i) .task .k
+k-read : (c : Turn) → c .word2 .result ≡ coreAt (stateOf (words-in c) .rows) (c .before .before .before .before .loop .i) .task .k
 unfolding rowOf taskOf
 k-read c = c .word2 .ensures ∙ ap (λ (z : Row). z .core .task .k) (row-read _ _ (row-in c))
 
 rows-of-requires : tie.Need-rows-of-requires Inv-loop μ-loop
 rows-of-requires c κs = c .before .pre .laid
 
+the-book-requires : tie.Need-the-book-requires Inv-loop μ-loop
+the-book-requires c κs = search needs
+
 loop-holds : tie.Need-loop-holds Inv-loop μ-loop
 loop-holds c =
     record {
-      held = c .before .before .pre;
-      total = c .rows-of .ensures;
+      held = c .before .before .before .pre;
+      total = c .before .rows-of .ensures;
       long = refl;
       reached = omega arith;
       done = λ j l. absurd (omega arith);
@@ -86,28 +90,28 @@ loop-holds c =
 
 word-requires : tie.Need-word-requires Inv-loop μ-loop
 word-requires c κs =
-    let f = c .before .loop .inv in
+    let f = c .before .before .loop .inv in
     (words-long (f .held .laid), omega (arith, f .total, f .held .laid .few), omega arith)
 
 word-requires-2 : tie.Need-word-requires-2 Inv-loop μ-loop
 word-requires-2 c κs =
-    let f = c .before .before .loop .inv in
+    let f = c .before .before .before .loop .inv in
     (words-long (f .held .laid), omega (arith, f .total, f .held .laid .few), omega arith)
 
-pattern-requires : tie.Need-pattern-requires Inv-loop μ-loop
-pattern-requires c κs =
-    let f = c .before .before .before .loop in
-    let g = f .inv .held .sound .rows (f .i) (omega (arith, f .inv .total, c .before .before .loop-test .taken)) .core .ranged .pair in
-    record { m-low = omega (arith, m-read c); m-high = omega (arith, m-read c, k-read c); k-high = omega (arith, k-read c) }
+word-in-requires : tie.Need-word-in-requires Inv-loop μ-loop
+word-in-requires c κs =
+    let f = c .before .before .before .before .loop in
+    let g = f .inv .held .sound .rows (f .i) (omega (arith, f .inv .total, c .before .before .before .loop-test .taken)) .core .ranged .pair in
+    (c .before .before .before .before .before .the-book .ensures, record { m-low = omega (arith, m-read c); m-high = omega (arith, m-read c, k-read c); k-high = omega (arith, k-read c) })
 
 mul-patterns : tie.Need-mul-patterns Inv-loop μ-loop
-mul-patterns c = let f = c .before .before .before .before .loop .inv in omega (arith, f .total, f .held .laid .few)
+mul-patterns c = let f = c .before .before .before .before .before .loop .inv in omega (arith, f .total, f .held .laid .few)
 
 array-write-patterns : tie.Need-array-write-patterns Inv-loop μ-loop
-array-write-patterns c = let f = c .before .before .before .before .loop .inv in omega (arith, f .total, f .held .laid .few)
+array-write-patterns c = let f = c .before .before .before .before .before .loop .inv in omega (arith, f .total, f .held .laid .few)
 
 add-i : tie.Need-add-i Inv-loop μ-loop
-add-i c = let f = c .before .before .before .before .loop .inv in omega (arith, f .total, f .held .laid .few)
+add-i c = let f = c .before .before .before .before .before .loop .inv in omega (arith, f .total, f .held .laid .few)
 
 loop-less : tie.Need-loop-less Inv-loop μ-loop
 loop-less c = omega arith
@@ -116,8 +120,8 @@ loop-again : tie.Need-loop-again Inv-loop μ-loop
 unfolding wordOf
 loop-again c =
     let t = c .before in
-    fetched-next (t .before .before .before .loop .inv) _ (t .before .before .loop-test .taken)
-    (c .pattern .ensures ∙ ap (λ (z : ℕ). word z (t .word2 .result)) (m-read t) ∙ ap (λ (z : ℕ). word (coreAt (stateOf (words-in t) .rows) (t .before .before .before .loop .i) .task .m) z) (k-read t))
+    fetched-next (t .before .before .before .before .loop .inv) _ (t .before .before .before .loop-test .taken)
+    (c .word-in .ensures ∙ ap (λ (z : ℕ). word z (t .word2 .result)) (m-read t) ∙ ap (λ (z : ℕ). word (coreAt (stateOf (words-in t) .rows) (t .before .before .before .before .loop .i) .task .m) z) (k-read t))
 
 returns : tie.Need-returns Inv-loop μ-loop
 returns c = (all-fetched (c .before .loop .inv) (c .loop-test .left), c .before .loop .inv .long)
@@ -129,10 +133,11 @@ fetch-spec =
     Inv-loop
     μ-loop
     rows-of-requires
+    the-book-requires
     loop-holds
     word-requires
     word-requires-2
-    pattern-requires
+    word-in-requires
     mul-patterns
     array-write-patterns
     add-i
