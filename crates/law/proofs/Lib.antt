@@ -17,4 +17,5 @@ pub mod Units
 pub mod Fresh
 pub mod Examples
 pub mod TextAnswers
+pub mod TextDecimal
 pub mod TextExamples
