@@ -18,4 +18,5 @@ pub mod Fresh
 pub mod Examples
 pub mod TextAnswers
 pub mod TextDecimal
+pub mod TextLongest
 pub mod TextExamples

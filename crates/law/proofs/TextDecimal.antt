@@ -86,6 +86,18 @@ digits-most (suc n) (suc m) v h =
       | no l ↦ omega (arith, digits-most n m (v / 10) (omega arith), ap length (decimal-more n v (omega arith)), length-append (decimalOf n (v / 10)) ((48 + v % 10) ∷ []))
     ]
 
+digits-few : (n v : ℕ) → length (decimalOf n v) ≤ n
+digits-few zero v = omega (arith, ap length (decimal-none v))
+digits-few (suc n) v =
+    elim (decLt v 10) [
+      | yes l ↦ omega (arith, ap length (decimal-one n v l))
+      | no l ↦ omega (arith, digits-few n (v / 10), ap length (decimal-more n v (omega arith)), length-append (decimalOf n (v / 10)) ((48 + v % 10) ∷ []))
+    ]
+
+pub decimal-ten : (v : ℕ) → length (decimal v) ≤ 10
+unfolding decimal
+decimal-ten v = digits-few 10 v
+
 pub decimal-longest : (m v : ℕ) → v < 10 ^ suc m → length (decimal v) ≤ suc m
 unfolding decimal
 decimal-longest m v h = digits-most 10 m v h

@@ -1,0 +1,86 @@
+-- The longest text: a row's lines have 43 bytes at most and the first line 8, so a well-formed table's text has 1,384 at most; and one has so many.
+use mathlib.Core.List.{List, [], _∷_, _++_, map}
+use mathlib.Core.Path.{_≡_, refl, ap, _∙_, subst}
+use Prim.Native.Nat.{ℕ, zero, suc, _+_, _*_, _/_, _≤_, _<_}
+use native.Mathlib.Omega.{arith}
+use lib.ListN.{length, getD, length-append}
+use lib.Seq.{getD-append-add}
+use Rattle.law.specs.Sums.{firstFrom, build}
+use Rattle.law.specs.Refusal.{accepted, within}
+use Rattle.law.specs.Table.{width, taskOf, taskAt, tableOf, row, Ranged, repeated, faultOf, faulty, rowsChecked, checked}
+use Rattle.law.specs.Text.{rowKeys, keysOf, lines}
+use Rattle.law.specs.Reading.{decimalOf, decimal, textOf}
+use Rattle.law.proofs.Table.{table-length, table-row, checked-accepted}
+use Rattle.law.proofs.TextDecimal.{decimal-longest}
+
+-- words, six to a row
+data Rows : ℕ → List ℕ → Type 0 where
+  none : Rows zero []
+  more : (id c t d m k : ℕ) {n : ℕ} {rest : List ℕ} → Rows n rest → Rows (suc n) (id ∷ c ∷ t ∷ d ∷ m ∷ k ∷ rest)
+
+rows-of : (n : ℕ) (words : List ℕ) → length words ≡ n * width → Rows n words
+rows-of zero [] e = none
+rows-of zero (x ∷ words) e = absurd (omega arith)
+rows-of (suc n) (id ∷ c ∷ t ∷ d ∷ m ∷ k ∷ rest) e = more id c t d m k (rows-of n rest (omega arith))
+rows-of (suc n) [] e = absurd (omega arith)
+rows-of (suc n) (a ∷ []) e = absurd (omega arith)
+rows-of (suc n) (a ∷ b ∷ []) e = absurd (omega arith)
+rows-of (suc n) (a ∷ b ∷ c ∷ []) e = absurd (omega arith)
+rows-of (suc n) (a ∷ b ∷ c ∷ d ∷ []) e = absurd (omega arith)
+rows-of (suc n) (a ∷ b ∷ c ∷ d ∷ f ∷ []) e = absurd (omega arith)
+
+-- the rows behind the first
+task-behind : (a b c d e f : ℕ) (rest : List ℕ) (i : ℕ) → taskAt (a ∷ b ∷ c ∷ d ∷ e ∷ f ∷ rest) (suc i) ≡ taskAt rest i
+task-behind a b c d e f rest i = simp shift
+  where
+    shift : (j : ℕ) → getD (a ∷ b ∷ c ∷ d ∷ e ∷ f ∷ rest) (suc i * width + j) 0 ≡ getD rest (i * width + j) 0
+    shift j =
+        let place : suc i * width + j ≡ 6 + (i * width + j) = omega arith in
+        ap (λ (z : ℕ). getD (a ∷ b ∷ c ∷ d ∷ e ∷ f ∷ rest) z 0) place
+        ∙ getD-append-add (a ∷ b ∷ c ∷ d ∷ e ∷ f ∷ []) rest (i * width + j) 0
+
+-- the lines of a row, before those of the rows behind it
+row-longest : (id c t d m k : ℕ) (rest : List ℕ) (keys : List (List ℕ)) → Ranged (taskAt (id ∷ c ∷ t ∷ d ∷ m ∷ k ∷ rest) 0)
+    → length (lines (rowKeys ++ keys) (map decimal (id ∷ c ∷ t ∷ d ∷ m ∷ k ∷ rest))) ≤ 43 + length (lines keys (map decimal rest))
+unfolding lines taskOf
+row-longest id c t d m k rest keys r =
+    let small : (v : ℕ) → v ≤ 65535 → length (decimal v) ≤ 5 = λ v h. decimal-longest 4 v (omega arith) in
+    let few : (v : ℕ) → v ≤ 64 → length (decimal v) ≤ 2 = λ v h. decimal-longest 1 v (omega arith) in
+    simp length-append
+    (omega (arith, small id (r .id-high), small c (r .c-high), small t (r .t-high), small d (omega arith), few m (omega arith), few k (r .pair .k-high)))
+
+rows-longest : (n : ℕ) (words : List ℕ) → Rows n words → ((i : ℕ) → i < n → Ranged (taskAt words i))
+    → length (lines (keysOf rowKeys n) (map decimal words)) ≤ n * 43
+unfolding keysOf lines
+rows-longest n words none ranged = omega arith
+rows-longest n words (more id c t d m k {n = less} {rest = rest} rows) ranged =
+    omega (
+      arith,
+      row-longest id c t d m k rest (keysOf rowKeys less) (ranged 0 (omega arith)),
+      rows-longest less rest rows (λ i h. subst Ranged (task-behind id c t d m k rest i) (ranged (suc i) (omega arith))),
+    )
+
+-- "At most 1,384 bytes"
+pub text-longest : (words vs : List ℕ) → checked words ≡ accepted vs → length (textOf rowKeys words) ≤ 1384
+unfolding textOf lines
+text-longest words vs e =
+    let a = checked-accepted words vs e in
+    let n = length words / width in
+    let whole : length words ≡ n * width = omega arith in
+    let high : n ≤ 32 = omega (arith, table-length words) in
+    let rows = rows-longest n words (rows-of n words whole)
+    (λ i h. subst Ranged (table-row words i h) (a .table .ranged i (omega (arith, table-length words)))) in
+    simp length-append (omega (arith, decimal-longest 1 n (omega arith), rows))
+
+-- 32 rows of the longest values
+pub longest : ℕ → List ℕ
+longest zero = []
+longest (suc n) = (10000 + n) ∷ 65535 ∷ 65535 ∷ 65535 ∷ 64 ∷ 64 ∷ longest n
+
+pub longest-accepted : checked (longest 32) ≡ accepted (32 ∷ [])
+unfolding longest checked rowsChecked tableOf taskOf build faulty faultOf repeated firstFrom within
+longest-accepted = refl
+
+pub longest-reached : length (textOf rowKeys (longest 32)) ≡ 1384
+unfolding longest textOf decimal decimalOf lines keysOf
+longest-reached = refl
