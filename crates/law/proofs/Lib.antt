@@ -18,5 +18,6 @@ pub mod Fresh
 pub mod Examples
 pub mod TextAnswers
 pub mod TextDecimal
+pub mod Words
 pub mod TextLongest
 pub mod TextExamples

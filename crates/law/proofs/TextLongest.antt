@@ -11,33 +11,8 @@ use Rattle.law.specs.Table.{width, taskOf, taskAt, tableOf, row, Ranged,
 use Rattle.law.specs.Text.{rowKeys, keysOf, lines}
 use Rattle.law.specs.Reading.{decimalOf, decimal, textOf}
 use Rattle.law.proofs.Table.{table-length, table-row, checked-accepted}
+use Rattle.law.proofs.Words.{Rows, none, more, task-behind, TableRows, table-rows}
 use Rattle.law.proofs.TextDecimal.{decimal-longest}
-
--- words, six to a row
-data Rows : ℕ → List ℕ → Type 0 where
-  none : Rows zero []
-  more : (id c t d m k : ℕ) {n : ℕ} {rest : List ℕ} → Rows n rest → Rows (suc n) (id ∷ c ∷ t ∷ d ∷ m ∷ k ∷ rest)
-
-rows-of : (n : ℕ) (words : List ℕ) → length words ≡ n * width → Rows n words
-rows-of zero [] e = none
-rows-of zero (x ∷ words) e = absurd (omega arith)
-rows-of (suc n) (id ∷ c ∷ t ∷ d ∷ m ∷ k ∷ rest) e = more id c t d m k (rows-of n rest (omega arith))
-rows-of (suc n) [] e = absurd (omega arith)
-rows-of (suc n) (a ∷ []) e = absurd (omega arith)
-rows-of (suc n) (a ∷ b ∷ []) e = absurd (omega arith)
-rows-of (suc n) (a ∷ b ∷ c ∷ []) e = absurd (omega arith)
-rows-of (suc n) (a ∷ b ∷ c ∷ d ∷ []) e = absurd (omega arith)
-rows-of (suc n) (a ∷ b ∷ c ∷ d ∷ f ∷ []) e = absurd (omega arith)
-
--- the rows behind the first
-task-behind : (a b c d e f : ℕ) (rest : List ℕ) (i : ℕ) → taskAt (a ∷ b ∷ c ∷ d ∷ e ∷ f ∷ rest) (suc i) ≡ taskAt rest i
-task-behind a b c d e f rest i = simp shift
-  where
-    shift : (j : ℕ) → getD (a ∷ b ∷ c ∷ d ∷ e ∷ f ∷ rest) (suc i * width + j) 0 ≡ getD rest (i * width + j) 0
-    shift j =
-        let place : suc i * width + j ≡ 6 + (i * width + j) = omega arith in
-        ap (λ (z : ℕ). getD (a ∷ b ∷ c ∷ d ∷ e ∷ f ∷ rest) z 0) place
-        ∙ getD-append-add (a ∷ b ∷ c ∷ d ∷ e ∷ f ∷ []) rest (i * width + j) 0
 
 -- the lines of a row, before those of the rows behind it
 row-longest : (id c t d m k : ℕ) (rest : List ℕ) (keys : List (List ℕ)) → Ranged (taskAt (id ∷ c ∷ t ∷ d ∷ m ∷ k ∷ rest) 0)
@@ -64,13 +39,9 @@ rows-longest n words (more id c t d m k {n = less} {rest = rest} rows) ranged =
 pub text-longest : (words vs : List ℕ) → checked words ≡ accepted vs → length (textOf rowKeys words) ≤ 1384
 unfolding textOf lines
 text-longest words vs e =
-    let a = checked-accepted words vs e in
+    let a = table-rows words vs e in
     let n = length words / width in
-    let whole : length words ≡ n * width = omega arith in
-    let high : n ≤ 32 = omega (arith, table-length words) in
-    let rows = rows-longest n words (rows-of n words whole)
-    (λ i h. subst Ranged (table-row words i h) (a .table .ranged i (omega (arith, table-length words)))) in
-    simp length-append (omega (arith, decimal-longest 1 n (omega arith), rows))
+    simp length-append (omega (arith, decimal-longest 1 n (omega (arith, a .high)), rows-longest n words (a .rows) (a .ranged)))
 
 -- 32 rows of the longest values
 pub longest : ℕ → List ℕ
