@@ -20,4 +20,5 @@ pub mod TextAnswers
 pub mod TextDecimal
 pub mod Words
 pub mod TextLongest
+pub mod TextTrips
 pub mod TextExamples

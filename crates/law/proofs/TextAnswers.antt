@@ -192,6 +192,20 @@ module _ (words : List ℕ) (room : ℕ) where
   unfolding writeAnswer
   write-accepted e h = rw (e, le-leb (length (textOf rowKeys words)) room h)
 
+-- what an accepted writing says
+pub record WrittenBy (words : List ℕ) (room : ℕ) (vs : List ℕ) : Type 0 where
+  pub ws : List ℕ
+  pub good : checked words ≡ accepted ws
+  pub fits : length (textOf rowKeys words) ≤ room
+  pub long : vs ≡ length (textOf rowKeys words) ∷ []
+
+pub write-says : (words : List ℕ) (room : ℕ) (vs : List ℕ) → writeAnswer words room ≡ accepted vs → WrittenBy words room vs
+unfolding writeAnswer
+write-says words room vs e =
+    let a = after-accepted (checked words) _ vs e in
+    let r = passed-on (leb (length (textOf rowKeys words)) room) 13 [] vs _ (a .2) in
+    record { ws = a .0; good = a .1; fits = leb-true (length (textOf rowKeys words)) room (r .0); long = cc (r .1) }
+
 pub write-filled : (words room : List ℕ) {vs : List ℕ} → writeAnswer words (length room) ≡ accepted vs
     → writeRoom words room ≡ textOf rowKeys words ++ drop (length (textOf rowKeys words)) room
 unfolding writeRoom

@@ -1,17 +1,15 @@
 -- The longest text: a row's lines have 43 bytes at most and the first line 8, so a well-formed table's text has 1,384 at most; and one has so many.
 use mathlib.Core.List.{List, [], _∷_, _++_, map}
-use mathlib.Core.Path.{_≡_, refl, ap, _∙_, subst}
+use mathlib.Core.Path.{_≡_, refl, subst}
 use Prim.Native.Nat.{ℕ, zero, suc, _+_, _*_, _/_, _≤_, _<_}
 use native.Mathlib.Omega.{arith}
-use lib.ListN.{length, getD, length-append}
-use lib.Seq.{getD-append-add}
+use lib.ListN.{length, length-append}
 use Rattle.law.specs.Sums.{firstFrom, build}
 use Rattle.law.specs.Refusal.{accepted, within}
 use Rattle.law.specs.Table.{width, taskOf, taskAt, tableOf, row, Ranged, repeated, faultOf, faulty, rowsChecked, checked}
 use Rattle.law.specs.Text.{rowKeys, keysOf, lines}
 use Rattle.law.specs.Reading.{decimalOf, decimal, textOf}
-use Rattle.law.proofs.Table.{table-length, table-row, checked-accepted}
-use Rattle.law.proofs.Words.{Rows, none, more, task-behind, TableRows, table-rows}
+use Rattle.law.proofs.Words.{Rows, none, more, task-behind, table-rows}
 use Rattle.law.proofs.TextDecimal.{decimal-longest}
 
 -- the lines of a row, before those of the rows behind it

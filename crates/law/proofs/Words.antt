@@ -1,17 +1,16 @@
 -- The words of a table, six to a row: its rows one after the other, and every word of an accepted table is at most 65,535.
 use mathlib.Core.Bool.{Bool, true}
 use mathlib.Core.List.{List, [], _∷_}
-use mathlib.Core.Path.{_≡_, refl, sym, ap, _∙_, subst}
-use Prim.Native.Nat.{ℕ, zero, suc, _+_, _*_, _/_, _%_, _≤_, _<_}
+use mathlib.Core.Path.{_≡_, refl, ap, _∙_, subst}
+use Prim.Native.Nat.{ℕ, zero, suc, _+_, _*_, _/_, _≤_, _<_}
 use native.Mathlib.Omega.{arith}
 use lib.Dec.{leb}
 use lib.ListN.{length, getD}
 use lib.Seq.{getD-append-add}
 use borrow.Author.Tests.{le-leb}
-use Rattle.law.specs.Sums.{both, every}
+use Rattle.law.specs.Sums.{every}
 use Rattle.law.specs.Refusal.{accepted}
-use Rattle.law.specs.Table.{width, taskOf, taskAt, tableOf, Ranged, checked}
-use Rattle.law.proofs.Tests.{both-true}
+use Rattle.law.specs.Table.{width, taskOf, taskAt, Ranged, checked}
 use Rattle.law.proofs.Table.{table-length, table-row, checked-accepted}
 
 -- words, six to a row
@@ -70,8 +69,15 @@ rows-small n words none ranged = refl
 rows-small n words (more id c t d m k {n = less} {rest = rest} rows) ranged =
     let r = ranged 0 (omega arith) in
     let more = rows-small less rest rows (λ i h. subst Ranged (task-behind id c t d m k rest i) (ranged (suc i) (omega arith))) in
-    rw (le-leb id 65535 (r .id-high), le-leb c 65535 (r .c-high), le-leb t 65535 (r .t-high), le-leb d 65535 (omega arith), le-leb m 65535 (omega arith),
-    le-leb k 65535 (omega arith), more)
+    rw (
+      le-leb id 65535 (r .id-high),
+      le-leb c 65535 (r .c-high),
+      le-leb t 65535 (r .t-high),
+      le-leb d 65535 (omega arith),
+      le-leb m 65535 (omega arith),
+      le-leb k 65535 (omega arith),
+      more,
+    )
 
 pub words-small : (words vs : List ℕ) → checked words ≡ accepted vs → every isSmall words ≡ true
 words-small words vs e = let a = table-rows words vs e in rows-small (length words / width) words (a .rows) (a .ranged)
