@@ -77,21 +77,27 @@ digits-enough (suc n) (suc m) v h k =
     ]
 
 -- how many
+length-one : (n v : ℕ) → v < 10 → length (decimalOf (suc n) v) ≡ 1
+length-one n v h = ap length (decimal-one n v h)
+
+length-more : (n v : ℕ) → 10 ≤ v → length (decimalOf (suc n) v) ≡ suc (length (decimalOf n (v / 10)))
+length-more n v h = ap length (decimal-more n v h) ∙ length-append (decimalOf n (v / 10)) ((48 + v % 10) ∷ []) ∙ omega arith
+
 digits-most : (n m v : ℕ) → v < 10 ^ suc m → length (decimalOf n v) ≤ suc m
 digits-most zero m v h = omega (arith, ap length (decimal-none v))
-digits-most (suc n) zero v h = omega (arith, ap length (decimal-one n v (omega arith)))
+digits-most (suc n) zero v h = omega (arith, length-one n v (omega arith))
 digits-most (suc n) (suc m) v h =
     elim (decLt v 10) [
-      | yes l ↦ omega (arith, ap length (decimal-one n v l))
-      | no l ↦ omega (arith, digits-most n m (v / 10) (omega arith), ap length (decimal-more n v (omega arith)), length-append (decimalOf n (v / 10)) ((48 + v % 10) ∷ []))
+      | yes l ↦ omega (arith, length-one n v l)
+      | no l ↦ omega (arith, digits-most n m (v / 10) (omega arith), length-more n v (omega arith))
     ]
 
 digits-few : (n v : ℕ) → length (decimalOf n v) ≤ n
 digits-few zero v = omega (arith, ap length (decimal-none v))
 digits-few (suc n) v =
     elim (decLt v 10) [
-      | yes l ↦ omega (arith, ap length (decimal-one n v l))
-      | no l ↦ omega (arith, digits-few n (v / 10), ap length (decimal-more n v (omega arith)), length-append (decimalOf n (v / 10)) ((48 + v % 10) ∷ []))
+      | yes l ↦ omega (arith, length-one n v l)
+      | no l ↦ omega (arith, digits-few n (v / 10), length-more n v (omega arith))
     ]
 
 pub decimal-ten : (v : ℕ) → length (decimal v) ≤ 10
@@ -106,8 +112,8 @@ pub decimal-shortest : (v : ℕ) → 1 ≤ length (decimal v)
 unfolding decimal
 decimal-shortest v =
     elim (decLt v 10) [
-      | yes l ↦ omega (arith, ap length (decimal-one 9 v l))
-      | no l ↦ omega (arith, ap length (decimal-more 9 v (omega arith)), length-append (decimalOf 9 (v / 10)) ((48 + v % 10) ∷ []))
+      | yes l ↦ omega (arith, length-one 9 v l)
+      | no l ↦ omega (arith, length-more 9 v (omega arith))
     ]
 
 -- all of them digits
@@ -174,8 +180,10 @@ pub decimal-value : (v : ℕ) → v ≤ 99999 → isValue (decimal v) ≡ true
 unfolding decimal
 decimal-value v h =
     elim (decLt 0 v) [
-      | yes l ↦ value-of-digits (decimalOf 10 v) (digits-digits 10 v) (digits-lead 10 v (omega arith) (omega arith)) (digits-most 10 4 v (omega arith))
-      | no l ↦ let e : v ≡ 0 = omega arith in ap (λ (z : ℕ). isValue (decimalOf 10 z)) e ∙ ap isValue (decimal-one 9 0 (omega arith)) ∙ value-zero
+      | yes l ↦ let lead = digits-lead 10 v (omega arith) (omega arith) in
+          value-of-digits (decimalOf 10 v) (digits-digits 10 v) lead (digits-most 10 4 v (omega arith))
+      | no l ↦ let none : v ≡ 0 = omega arith in
+          ap (λ (z : ℕ). isValue (decimalOf 10 z)) none ∙ ap isValue (decimal-one 9 0 (omega arith)) ∙ value-zero
     ]
 
 -- what a value is: 0, or a non-zero digit and at most four digits more
@@ -188,11 +196,14 @@ unfolding isValue
 value-says [] e = absurd (never-both true refl (sym e))
 value-says (b ∷ more) e =
     elim (known (eqb b 48)) [
-      | passes z ↦ subst Value (sym (ap (λ (x : ℕ). x ∷ more) (eqb-true b 48 z) ∙ ap (λ (l : List ℕ). 48 ∷ l) (alone more (eqb-true (length more) 0 (rw z at e))))) nought
+      | passes z ↦ let first = eqb-true b 48 z in
+          let none = alone more (eqb-true (length more) 0 (rw z at e)) in
+          let same : 48 ∷ [] ≡ b ∷ more = cc in subst Value same nought
       | fails z ↦ let e = rw z at e in
           let digit = both-left (isDigit b) _ e in
           let rest = both-right (isDigit b) _ e in
-          leading b more (omega (arith, digit-low b digit, eqb-false b 48 z)) (digit-high b digit) (both-left _ _ rest) (leb-true (length more) 4 (both-right (every isDigit more) _ rest))
+          let few = leb-true (length more) 4 (both-right (every isDigit more) _ rest) in
+          leading b more (omega (arith, digit-low b digit, eqb-false b 48 z)) (digit-high b digit) (both-left _ _ rest) few
     ]
   where
     alone : (l : List ℕ) → length l ≡ 0 → l ≡ []
