@@ -16,6 +16,9 @@ pub mod Ticks
 pub mod Units
 pub mod Fresh
 pub mod Examples
+pub mod Lists
+pub mod TextLine
+pub mod TextLines
 pub mod TextAnswers
 pub mod TextDecimal
 pub mod Words

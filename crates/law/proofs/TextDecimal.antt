@@ -1,5 +1,5 @@
 -- Decimals: the digits of a number say that number, a value's number has that value for its digits, and how many digits there are.
-use mathlib.Core.Bool.{Bool, true}
+use mathlib.Core.Bool.{true}
 use mathlib.Core.List.{List, [], _∷_, _++_, append-assoc, append-nil}
 use mathlib.Core.Path.{_≡_, refl, sym, ap, subst, _∙_}
 use Prim.Native.Nat.{ℕ, zero, suc, _+_, _-_, _*_, _/_, _%_, _^_, _≤_, _<_}
@@ -14,6 +14,7 @@ use Rattle.law.specs.Refusal.{head}
 use Rattle.law.specs.Text.{isDigit, isValue, numberFrom, numberOf}
 use Rattle.law.specs.Reading.{decimalOf, decimal}
 use Rattle.law.proofs.Tests.{passes, fails, known, never-both, both-left, both-right, both-true}
+use Rattle.law.proofs.Lists.{every-append}
 use Rattle.law.proofs.Question.{within-low, within-high, within-is}
 
 -- the digits of a number, by its last one
@@ -128,11 +129,6 @@ digit-high b e = within-high 48 57 b e
 digit-is : (v : ℕ) → v < 10 → isDigit (48 + v) ≡ true
 unfolding isDigit
 digit-is v h = within-is 48 57 (48 + v) (omega arith) (omega arith)
-
-pub every-append : {A : Type 0} (p : A → Bool) (xs ys : List A) → every p xs ≡ true → every p ys ≡ true → every p (xs ++ ys) ≡ true
-unfolding every
-every-append p [] ys e f = f
-every-append p (x ∷ xs) ys e f = both-true (p x) _ (both-left (p x) _ e) (every-append p xs ys (both-right (p x) _ e) f)
 
 every-none : every isDigit [] ≡ true
 unfolding every
