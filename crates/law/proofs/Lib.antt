@@ -19,6 +19,7 @@ pub mod Examples
 pub mod Lists
 pub mod TextLine
 pub mod TextLines
+pub mod TextPlace
 pub mod TextAnswers
 pub mod TextDecimal
 pub mod Words

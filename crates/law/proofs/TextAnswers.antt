@@ -1,18 +1,15 @@
 -- The answers of reading and of writing a task text, one law for each way out, and what the lent room holds then.
-use mathlib.Core.Bool.{Bool, true, false}
 use mathlib.Core.List.{List, [], _∷_, _++_}
 use mathlib.Core.Path.{_≡_, refl, sym, ap, _∙_}
-use Prim.Native.Nat.{ℕ, zero, suc, _+_, _*_, _/_, _%_, _≤_, _<_}
-use native.Mathlib.Nat.{suc-mul}
+use Prim.Native.Nat.{ℕ, _+_, _*_, _/_, _%_, _≤_, _<_}
 use native.Mathlib.Omega.{arith}
 use lib.Dec.{leb, ltb, eqb}
-use lib.ListN.{length, drop, length-append}
+use lib.ListN.{length, drop}
 use borrow.Author.Tests.{ltb-true, leb-true, lt-ltb, le-ltb, le-leb, lt-leb, eq-eqb}
-use Rattle.law.specs.Sums.{both, pick}
 use Rattle.law.specs.Refusal.{accepted, refused, head}
 use Rattle.law.specs.Table.{Task, width, tableOf, rowFault, faulty, rowsChecked, checked}
-use Rattle.law.specs.Text.{rowsKey, rowKeys, keysOf}
-use Rattle.law.specs.Reading.{Found, found, fault, byteAt, keyLength, valueLength, valueOfLength, valueAt, lineAt, behind, onward, linesAt, ended, rowsAt, textRead, rowsAnswer, firstAnswer, readAnswer, wordsRead, readRoom, textOf, writeAnswer, writeRoom}
+use Rattle.law.specs.Text.{rowsKey, rowKeys}
+use Rattle.law.specs.Reading.{Found, found, fault, lineAt, rowsAt, textRead, rowsAnswer, firstAnswer, readAnswer, wordsRead, readRoom, textOf, writeAnswer, writeRoom}
 use Rattle.law.proofs.Table.{passed-on}
 use Rattle.law.proofs.Verdict.{after-accepted}
 
@@ -23,55 +20,6 @@ checked-of-rows words n e low high =
     let whole : length words % width ≡ 0 = omega arith in
     let many : length words / width ≡ n = omega arith in
     rw (eq-eqb (length words % width) 0 whole, lt-ltb 0 (length words / width) (omega arith), le-leb (length words / width) 32 (omega arith))
-
--- a line gives one word, so the rows give six each
-line-one : (text : List ℕ) (at : ℕ) (key : List ℕ) {values : List ℕ} {next : ℕ} → lineAt text at key ≡ found values next → length values ≡ 1
-unfolding lineAt valueAt valueOfLength
-line-one text at key {values} {next} e =
-    let n = valueLength text (at + length key) in
-    by (eqb (keyLength text at key) (length key)) (both (ltb 0 n) (eqb (byteAt text (at + length key + n)) 10)) _ _ _ _ e
-  where
-    by : (b c : Bool) (v n i j : ℕ) → pick b (pick c (found (v ∷ []) n) (fault i)) (fault j) ≡ found values next → length values ≡ 1
-    by true true v n i j q = let same : values ≡ v ∷ [] = cc in ap length same
-    by true false v n i j q = cc
-    by false c v n i j q = cc
-
-lines-many : (text : List ℕ) (at : ℕ) (keys : List (List ℕ)) {words : List ℕ} {last : ℕ} → linesAt text at keys ≡ found words last
-    → length words ≡ length keys
-unfolding linesAt
-lines-many text at [] {words} e = let same : words ≡ [] = cc in ap length same
-lines-many text at (key ∷ keys) {words} {last} e = by (lineAt text at key) refl e (λ next more end q. lines-many text next keys q)
-  where
-    more : (values : List ℕ) → length values ≡ 1 → (f : Found) → ((ws : List ℕ) (end : ℕ) → f ≡ found ws end → length ws ≡ length keys)
-        → behind values f ≡ found words last → length words ≡ suc (length keys)
-    more values one (found ws end) many q =
-        let same : words ≡ values ++ ws = cc in ap length same ∙ length-append values ws ∙ omega (arith, many ws end refl)
-    more values one (fault j) many q = cc
-
-    by : (f : Found) → lineAt text at key ≡ f → onward f (λ values next. behind values (linesAt text next keys)) ≡ found words last
-        → ((next : ℕ) (ws : List ℕ) (end : ℕ) → linesAt text next keys ≡ found ws end → length ws ≡ length keys)
-        → length words ≡ suc (length keys)
-    by (found values next) line q many = more values (line-one text at key line) (linesAt text next keys) (many next) q
-    by (fault j) line q many = cc
-
-pub keys-length : (keys : List (List ℕ)) (n : ℕ) → length (keysOf keys n) ≡ n * length keys
-unfolding keysOf
-keys-length keys zero = omega arith
-keys-length keys (suc n) = length-append keys (keysOf keys n) ∙ omega (arith, keys-length keys n, suc-mul n (length keys))
-
-pub rows-many : (text : List ℕ) (at n : ℕ) {words : List ℕ} {last : ℕ} → rowsAt rowKeys text at n ≡ found words last
-    → length words ≡ n * width
-unfolding rowsAt
-rows-many text at n {words} {last} e =
-    lines-many text at (keysOf rowKeys n) (by (linesAt text at (keysOf rowKeys n)) e) ∙ keys-length rowKeys n
-  where
-    whole : (b : Bool) (ws : List ℕ) (next : ℕ) → pick b (found ws next) (fault next) ≡ found words last → found ws next ≡ found words last
-    whole true ws next q = q
-    whole false ws next q = cc
-
-    by : (f : Found) → ended text f ≡ found words last → f ≡ found words last
-    by (found ws next) q = whole (eqb next (length text)) ws next q
-    by (fault j) q = q
 
 -- the words of a text are those that its rows give, whatever the first line says
 pub words-read : (text : List ℕ) {values words : List ℕ} {next last : ℕ} → lineAt text 0 rowsKey ≡ found values next

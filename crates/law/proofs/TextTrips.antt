@@ -2,21 +2,41 @@
 use mathlib.Core.Bool.{true}
 use mathlib.Core.List.{List, [], _∷_, map}
 use mathlib.Core.Path.{_≡_, refl, sym, ap, _∙_}
-use Prim.Native.Nat.{ℕ, _*_, _/_, _≤_}
+use Prim.Native.Nat.{ℕ, zero, suc, _*_, _/_, _≤_}
+use native.Mathlib.Nat.{suc-mul}
 use native.Mathlib.Omega.{arith}
-use lib.ListN.{length, length-map}
+use lib.ListN.{length, length-append, length-map}
 use borrow.Author.Tests.{leb-true}
 use Rattle.law.specs.Sums.{every}
 use Rattle.law.specs.Refusal.{accepted, head}
 use Rattle.law.specs.Table.{width, checked}
 use Rattle.law.specs.Text.{rowsKey, rowKeys, keysOf, isValue, numberOf, lines, IsText}
-use Rattle.law.specs.Reading.{Found, found, fault, lineAt, onward, rowsAt, textRead, readAnswer, wordsRead, decimal, textOf, writeAnswer}
+use Rattle.law.specs.Reading.{Found, found, valuesOf, lineAt, rowsAt, textRead, readAnswer, wordsRead, decimal, textOf, writeAnswer}
 use Rattle.law.proofs.Tests.{both-left, both-right, both-true}
 use Rattle.law.proofs.Table.{table-length}
 use Rattle.law.proofs.Words.{table-rows, isSmall, words-small}
-use Rattle.law.proofs.TextAnswers.{checked-of-rows, keys-length, rows-many, read-accepted, words-read, read-says, write-accepted}
+use Rattle.law.proofs.TextPlace.{read-on, text-first, text-whole, TextFound, text-sound}
+use Rattle.law.proofs.TextAnswers.{checked-of-rows, read-accepted, words-read, read-says, write-accepted}
 use Rattle.law.proofs.TextDecimal.{decimal-number, decimal-value, number-decimal}
 use Rattle.law.proofs.TextLongest.{text-longest}
+
+-- as many keys as the rows have, and as many words
+keys-length : (keys : List (List ℕ)) (n : ℕ) → length (keysOf keys n) ≡ n * length keys
+unfolding keysOf
+keys-length keys zero = omega arith
+keys-length keys (suc n) = length-append keys (keysOf keys n) ∙ omega (arith, keys-length keys n, suc-mul n (length keys))
+
+module _ (text : List ℕ) {values words : List ℕ} {next last : ℕ} (line : lineAt text 0 rowsKey ≡ found values next)
+    (rows : rowsAt rowKeys text next (head values) ≡ found words last) where
+  text-found : TextFound rowKeys text words last
+  text-found = text-sound rowKeys text words last (read-on rowKeys text values next line ∙ rows)
+
+  pub words-many : length words ≡ head values * width
+  words-many =
+      let t = text-found in
+      let n = numberOf (t .form .rows) in
+      let counted : head values ≡ n = ap (λ (f : Found). head (valuesOf f)) (sym line ∙ t .counted) in
+      t .many ∙ keys-length rowKeys n ∙ omega arith
 
 -- the values of small words, and back
 decimals-good : (words : List ℕ) → every isSmall words ≡ true → every isValue (map decimal words) ≡ true
@@ -73,78 +93,60 @@ text-written text t =
     ∙ ap (λ (first : List ℕ). lines (rowsKey ∷ keys) (first ∷ map decimal (map numberOf values))) (number-decimal (t .rows) good)
     ∙ ap (λ (vs : List (List ℕ)). lines (rowsKey ∷ keys) (t .rows ∷ vs)) (decimals-back values all) ∙ sym (t .same)
 
--- what a reading of a whole text says of its parts
-pub record Parts (text words : List ℕ) (last : ℕ) : Type 0 where
-  pub values : List ℕ
-  pub next : ℕ
-  pub line : lineAt text 0 rowsKey ≡ found values next
-  pub rows : rowsAt rowKeys text next (head values) ≡ found words last
-
-read-parts : (text words : List ℕ) (last : ℕ) → textRead rowKeys text ≡ found words last → Parts text words last
-unfolding textRead
-read-parts text words last e = by (lineAt text 0 rowsKey) refl e
-  where
-    by : (f : Found) → lineAt text 0 rowsKey ≡ f → onward f (λ values next. rowsAt rowKeys text next (head values)) ≡ found words last
-        → Parts text words last
-    by (found values next) line q = record { values = values; next = next; line = line; rows = q }
-    by (fault j) line q = absurd (let z : _≡_ {A = ℕ} 0 1 = cc in omega arith)
-
 -- what an accepted text says: it is the text of the words it gave, and these are an accepted table
 pub record Trip (text : List ℕ) (room : ℕ) (vs : List ℕ) : Type 0 where
   pub written : textOf rowKeys (wordsRead text) ≡ text
   pub good : checked (wordsRead text) ≡ accepted vs
   pub rows : vs ≡ (length (wordsRead text) / width) ∷ []
   pub whole : length (wordsRead text) ≡ length (wordsRead text) / width * width
+  pub low : 1 ≤ length (wordsRead text) / width
+  pub high : length (wordsRead text) / width ≤ 32
   pub fits : length (wordsRead text) ≤ room
   pub most : length text ≤ 1384
 
--- reading finds just the texts of the form (proofs/TextPlace)
-module _ (text-whole : (text : List ℕ) (t : IsText rowKeys text) → textRead rowKeys text ≡ found (map numberOf (t .values)) (length text))
-    (text-sound : (text words : List ℕ) (next : ℕ) → textRead rowKeys text ≡ found words next
-    → (t : IsText rowKeys text) × (map numberOf (t .values) ≡ words)) where
-  -- "every well-formed table's text reads back to its words"
-  module _ (words vs : List ℕ) (good : checked words ≡ accepted vs) where
-    written-read : textRead rowKeys (textOf rowKeys words) ≡ found words (length (textOf rowKeys words))
-    written-read =
-        text-whole (textOf rowKeys words) (written-is-text words vs good)
-        ∙ ap (λ (ws : List ℕ). found ws (length (textOf rowKeys words))) (written-words words vs good)
+-- "every well-formed table's text reads back to its words"
+module _ (words vs : List ℕ) (good : checked words ≡ accepted vs) where
+  written-read : textRead rowKeys (textOf rowKeys words) ≡ found words (length (textOf rowKeys words))
+  written-read =
+      text-whole (written-is-text words vs good) ∙ ap (λ (ws : List ℕ). found ws (length (textOf rowKeys words))) (written-words words vs good)
 
-    pub write-read : (room : ℕ) → length words ≤ room
-        → (readAnswer (textOf rowKeys words) room ≡ accepted ((length words / width) ∷ [])) × (wordsRead (textOf rowKeys words) ≡ words)
-    write-read room fits =
-        let text = textOf rowKeys words in
-        let a = table-rows words vs good in
-        let p = read-parts text words (length text) written-read in
-        let many : head (p .values) ≡ length words / width = omega (arith, rows-many text (p .next) (head (p .values)) (p .rows), a .whole) in
-        let rows = sym (checked-of-rows words (length words / width) (a .whole) (a .low) (a .high)) ∙ good in (
-          read-accepted text room (p .line) (omega (arith, a .low)) (omega (arith, a .high)) (p .rows) rows fits
-              ∙ ap (λ (n : ℕ). accepted (n ∷ [])) (table-length words),
-          words-read text (p .line) (p .rows),
-        )
+  pub write-read : (room : ℕ) → length words ≤ room
+      → (readAnswer (textOf rowKeys words) room ≡ accepted ((length words / width) ∷ [])) × (wordsRead (textOf rowKeys words) ≡ words)
+  write-read room fits =
+      let text = textOf rowKeys words in
+      let a = table-rows words vs good in
+      let line = text-first (written-is-text words vs good) in
+      let rows = sym (read-on rowKeys text _ _ line) ∙ written-read in
+      let many = words-many text line rows in
+      let clean = sym (checked-of-rows words (length words / width) (a .whole) (a .low) (a .high)) ∙ good in (
+        read-accepted text room line (omega (arith, a .low)) (omega (arith, a .high)) rows clean fits
+            ∙ ap (λ (n : ℕ). accepted (n ∷ [])) (table-length words),
+        words-read text line rows,
+      )
 
-  -- "every accepted text is the text of the words it gave"
-  pub read-write : (text : List ℕ) (room : ℕ) (vs : List ℕ) → readAnswer text room ≡ accepted vs → Trip text room vs
-  unfolding textRead
-  read-write text room vs e =
-      let r = read-says text room vs e in
-      let words = wordsRead text in
-      let many = rows-many text (r .next) (head (r .values)) (r .rows) in
-      let good = checked-of-rows words (head (r .values)) many (r .low) (r .high) ∙ r .clean in
-      let read : textRead rowKeys text ≡ found words (r .last) = rw (r .line, r .rows) in
-      let t = text-sound text words (r .last) read in
-      let written = ap (textOf rowKeys) (sym (t .1)) ∙ text-written text (t .0) in
-      record {
-        written = written;
-        good = good;
-        rows = r .many ∙ ap (λ (n : ℕ). n ∷ []) (table-length words);
-        whole = omega arith;
-        fits = r .fits;
-        most = omega (arith, text-longest words vs good, ap length written);
-      }
+-- "every accepted text is the text of the words it gave"
+pub read-write : (text : List ℕ) (room : ℕ) (vs : List ℕ) → readAnswer text room ≡ accepted vs → Trip text room vs
+read-write text room vs e =
+    let r = read-says text room vs e in
+    let words = wordsRead text in
+    let t = text-found text (r .line) (r .rows) in
+    let many = words-many text (r .line) (r .rows) in
+    let good = checked-of-rows words (head (r .values)) many (r .low) (r .high) ∙ r .clean in
+    let written = ap (textOf rowKeys) (sym (t .are)) ∙ text-written text (t .form) in
+    record {
+      written = written;
+      good = good;
+      rows = r .many ∙ ap (λ (n : ℕ). n ∷ []) (table-length words);
+      whole = omega arith;
+      low = omega (arith, r .low);
+      high = omega (arith, r .high);
+      fits = r .fits;
+      most = omega (arith, text-longest words vs good, ap length written);
+    }
 
-  pub read-write-answer : (text : List ℕ) (room : ℕ) (vs : List ℕ) → readAnswer text room ≡ accepted vs → (r : ℕ) → length text ≤ r
-      → writeAnswer (wordsRead text) r ≡ accepted (length text ∷ [])
-  read-write-answer text room vs e r h =
-      let t = read-write text room vs e in
-      write-accepted (wordsRead text) r (t .good) (omega (arith, ap length (t .written)))
-      ∙ ap (λ (l : List ℕ). accepted (length l ∷ [])) (t .written)
+pub read-write-answer : (text : List ℕ) (room : ℕ) (vs : List ℕ) → readAnswer text room ≡ accepted vs → (r : ℕ) → length text ≤ r
+    → writeAnswer (wordsRead text) r ≡ accepted (length text ∷ [])
+read-write-answer text room vs e r h =
+    let t = read-write text room vs e in
+    write-accepted (wordsRead text) r (t .good) (omega (arith, ap length (t .written)))
+    ∙ ap (λ (l : List ℕ). accepted (length l ∷ [])) (t .written)
