@@ -6,7 +6,7 @@ use native.Mathlib.Omega.{arith}
 use lib.ListN.{length, length-append}
 use Rattle.law.specs.Sums.{firstFrom, build}
 use Rattle.law.specs.Refusal.{accepted, within}
-use Rattle.law.specs.Table.{width, taskOf, taskAt, tableOf, row, Ranged, repeated, faultOf, faulty, rowsChecked, checked}
+use Rattle.law.specs.Table.{width, taskOf, taskAt, tableOf, Ranged, repeated, faultOf, faulty, rowsChecked, checked}
 use Rattle.law.specs.Text.{rowKeys, keysOf, lines}
 use Rattle.law.specs.Reading.{decimalOf, decimal, textOf}
 use Rattle.law.proofs.Words.{Rows, none, more, task-behind, table-rows}
@@ -19,8 +19,11 @@ unfolding lines taskOf
 row-longest id c t d m k rest keys r =
     let small : (v : ℕ) → v ≤ 65535 → length (decimal v) ≤ 5 = λ v h. decimal-longest 4 v (omega arith) in
     let few : (v : ℕ) → v ≤ 64 → length (decimal v) ≤ 2 = λ v h. decimal-longest 1 v (omega arith) in
-    simp length-append
-    (omega (arith, small id (r .id-high), small c (r .c-high), small t (r .t-high), small d (omega arith), few m (omega arith), few k (r .pair .k-high)))
+    let one = small id (r .id-high) in
+    let two = small c (r .c-high) in
+    let three = small t (r .t-high) in
+    let four = small d (omega arith) in
+    simp length-append (omega (arith, one, two, three, four, few m (omega arith), few k (r .pair .k-high)))
 
 rows-longest : (n : ℕ) (words : List ℕ) → Rows n words → ((i : ℕ) → i < n → Ranged (taskAt words i))
     → length (lines (keysOf rowKeys n) (map decimal words)) ≤ n * 43
@@ -33,7 +36,7 @@ rows-longest n words (more id c t d m k {n = less} {rest = rest} rows) ranged =
       rows-longest less rest rows (λ i h. subst Ranged (task-behind id c t d m k rest i) (ranged (suc i) (omega arith))),
     )
 
--- "At most 1,384 bytes"
+-- "The longest accepted text is 1,384 bytes."
 pub text-longest : (words vs : List ℕ) → checked words ≡ accepted vs → length (textOf rowKeys words) ≤ 1384
 unfolding textOf lines
 text-longest words vs e =
@@ -49,6 +52,10 @@ longest (suc n) = (10000 + n) ∷ 65535 ∷ 65535 ∷ 65535 ∷ 64 ∷ 64 ∷ lo
 pub longest-accepted : checked (longest 32) ≡ accepted (32 ∷ [])
 unfolding longest checked rowsChecked tableOf taskOf build faulty faultOf repeated firstFrom within
 longest-accepted = refl
+
+pub longest-words : length (longest 32) ≡ 192
+unfolding longest
+longest-words = refl
 
 pub longest-reached : length (textOf rowKeys (longest 32)) ≡ 1384
 unfolding longest textOf decimal decimalOf lines keysOf

@@ -18,7 +18,7 @@ use Rattle.law.proofs.Words.{table-rows, isSmall, words-small}
 use Rattle.law.proofs.TextPlace.{read-on, text-first, text-whole, TextFound, text-sound}
 use Rattle.law.proofs.TextAnswers.{checked-of-rows, read-accepted, words-read, read-says, write-accepted}
 use Rattle.law.proofs.TextDecimal.{decimal-number, decimal-value, number-decimal}
-use Rattle.law.proofs.TextLongest.{text-longest}
+use Rattle.law.proofs.TextLongest.{text-longest, longest, longest-accepted, longest-words}
 
 -- as many keys as the rows have, and as many words
 keys-length : (keys : List (List ℕ)) (n : ℕ) → length (keysOf keys n) ≡ n * length keys
@@ -104,7 +104,7 @@ pub record Trip (text : List ℕ) (room : ℕ) (vs : List ℕ) : Type 0 where
   pub fits : length (wordsRead text) ≤ room
   pub most : length text ≤ 1384
 
--- "every well-formed table's text reads back to its words"
+-- every well-formed table's text reads back to its words
 module _ (words vs : List ℕ) (good : checked words ≡ accepted vs) where
   written-read : textRead rowKeys (textOf rowKeys words) ≡ found words (length (textOf rowKeys words))
   written-read =
@@ -124,7 +124,7 @@ module _ (words vs : List ℕ) (good : checked words ≡ accepted vs) where
         words-read text line rows,
       )
 
--- "every accepted text is the text of the words it gave"
+-- every accepted text is the text of the words it gave
 pub read-write : (text : List ℕ) (room : ℕ) (vs : List ℕ) → readAnswer text room ≡ accepted vs → Trip text room vs
 read-write text room vs e =
     let r = read-says text room vs e in
@@ -150,3 +150,9 @@ read-write-answer text room vs e r h =
     let t = read-write text room vs e in
     write-accepted (wordsRead text) r (t .good) (omega (arith, ap length (t .written)))
     ∙ ap (λ (l : List ℕ). accepted (length l ∷ [])) (t .written)
+
+-- "The longest accepted text is 1,384 bytes.": no accepted text is longer (`most` of a trip), and this one is accepted
+pub longest-read : readAnswer (textOf rowKeys (longest 32)) 192 ≡ accepted (32 ∷ [])
+longest-read =
+    write-read (longest 32) (32 ∷ []) longest-accepted 192 (omega (arith, longest-words)) .0
+    ∙ ap (λ (n : ℕ). accepted ((n / width) ∷ [])) longest-words
