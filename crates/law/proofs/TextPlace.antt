@@ -158,9 +158,9 @@ module _ (keys : List (List ℕ)) (text : List ℕ) (j : ℕ) where
           | fell i g ↦ in-rows count mid f (g ∙ sym (read-on keys text count mid f ∙ rows-cut keys text mid _ i g) ∙ e)
           | came ws last g ↦ elim (ℕ-discrete last (length text)) [
             | no h ↦
-                let all = read-on keys text count mid f ∙ rows-more keys text mid _ last ws g h in
-                let same : last ≡ j = omega (arith, ap reached (sym all ∙ e)) in
-                past-rows count mid ws f (g ∙ ap (found ws) same) (λ q. h (same ∙ q))
+              let all = read-on keys text count mid f ∙ rows-more keys text mid _ last ws g h in
+              let same : last ≡ j = omega (arith, ap reached (sym all ∙ e)) in
+              past-rows count mid ws f (g ∙ ap (found ws) same) (λ q. h (same ∙ q))
             | yes h ↦ absurd (came-fell (read-on keys text count mid f ∙ rows-end keys text mid _ last ws g h) e)
           ]
         ]
@@ -170,33 +170,33 @@ module _ (keys : List (List ℕ)) (text : List ℕ) (j : ℕ) where
   text-stuck bytes f =
       elim f [
         | at-first e ↦
-            let s = line-stuck text 0 rowsKey rows-key (omega arith) j e in
-            let n = numberOf (s .digits) in
-            let others = zeros (keysOf keys n) in
-            record {
-              high = s .high;
-              rest = s .rest ++ lines (keysOf keys n) others;
-              form = form-of n (s .digits) others refl (s .good) (zeros-good (keysOf keys n)) (zeros-many (keysOf keys n))
-                  (whole-behind s (lines (keysOf keys n) others));
-            }
+          let s = line-stuck text 0 rowsKey rows-key (omega arith) j e in
+          let n = numberOf (s .digits) in
+          let others = zeros (keysOf keys n) in
+          record {
+            high = s .high;
+            rest = s .rest ++ lines (keysOf keys n) others;
+            form = form-of n (s .digits) others refl (s .good) (zeros-good (keysOf keys n)) (zeros-many (keysOf keys n))
+                (whole-behind s (lines (keysOf keys n) others));
+          }
         | in-rows count mid e g ↦
-            let first = line-sound text 0 rowsKey count mid e in
-            let s = lines-stuck text mid _ j (keys-bytes keys (head count) bytes) (first .fits) g in
-            record {
-              high = s .high;
-              rest = s .rest;
-              form = form-of (head count) (first .digits) (s .digits) (sym (ap head (first .word))) (first .good) (s .good) (s .many)
-                  (s .whole ∙ line-before first (lines (keysOf keys (head count)) (s .digits)));
-            }
+          let first = line-sound text 0 rowsKey count mid e in
+          let s = lines-stuck text mid _ j (keys-bytes keys (head count) bytes) (first .fits) g in
+          record {
+            high = s .high;
+            rest = s .rest;
+            form = form-of (head count) (first .digits) (s .digits) (sym (ap head (first .word))) (first .good) (s .good) (s .many)
+                (s .whole ∙ line-before first (lines (keysOf keys (head count)) (s .digits)));
+          }
         | past-rows count mid words e g h ↦
-            let first = line-sound text 0 rowsKey count mid e in
-            let l = lines-sound text mid _ words j (first .fits) g in
-            record {
-              high = l .fits;
-              rest = [];
-              form = form-of (head count) (first .digits) (l .digits) (sym (ap head (first .word))) (first .good) (l .good) (l .many)
-                  (append-nil (take j text) ∙ lines-front l ∙ line-before first (lines (keysOf keys (head count)) (l .digits)));
-            }
+          let first = line-sound text 0 rowsKey count mid e in
+          let l = lines-sound text mid _ words j (first .fits) g in
+          record {
+            high = l .fits;
+            rest = [];
+            form = form-of (head count) (first .digits) (l .digits) (sym (ap head (first .word))) (first .good) (l .good) (l .many)
+                (append-nil (take j text) ∙ lines-front l ∙ line-before first (lines (keysOf keys (head count)) (l .digits)));
+          }
       ]
 
   -- a text with the same beginning has the same fault
@@ -206,15 +206,79 @@ module _ (keys : List (List ℕ)) (text : List ℕ) (j : ℕ) where
       elim f [
         | at-first e ↦ read-cut keys other j (line-local text 0 rowsKey other (suc j) same (omega (arith, ap reached e)) ∙ e)
         | in-rows count mid e g ↦
-            let past = lines-low text mid (keysOf keys (head count)) in
-            let first = line-local text 0 rowsKey other (suc j) same (omega (arith, ap reached e, ap reached g)) in
-            let others = lines-local text other (suc j) same mid (keysOf keys (head count)) (omega (arith, ap reached g)) in
-            read-on keys other count mid (first ∙ e) ∙ rows-cut keys other mid _ j (others ∙ g)
+          let past = lines-low text mid (keysOf keys (head count)) in
+          let first = line-local text 0 rowsKey other (suc j) same (omega (arith, ap reached e, ap reached g)) in
+          let others = lines-local text other (suc j) same mid (keysOf keys (head count)) (omega (arith, ap reached g)) in
+          read-on keys other count mid (first ∙ e) ∙ rows-cut keys other mid _ j (others ∙ g)
         | past-rows count mid words e g q ↦
-            let past = lines-low text mid (keysOf keys (head count)) in
-            let first = line-local text 0 rowsKey other (suc j) same (omega (arith, ap reached e, ap reached g)) in
-            let others = lines-local text other (suc j) same mid (keysOf keys (head count)) (omega (arith, ap reached g)) in
-            read-on keys other count mid (first ∙ e)
-            ∙ rows-more keys other mid _ j words (others ∙ g)
-            (λ ends. omega (arith, length-take (suc j) other, length-take (suc j) text, ap length same))
+          let past = lines-low text mid (keysOf keys (head count)) in
+          let first = line-local text 0 rowsKey other (suc j) same (omega (arith, ap reached e, ap reached g)) in
+          let others = lines-local text other (suc j) same mid (keysOf keys (head count)) (omega (arith, ap reached g)) in
+          read-on keys other count mid (first ∙ e)
+          ∙ rows-more keys other mid _ j words (others ∙ g)
+              (λ ends. omega (arith, length-take (suc j) other, length-take (suc j) text, ap length same))
       ]
+
+-- what begins a beginning begins the same text
+begins-shorter : {keys : List (List ℕ)} (text rest : List ℕ) (i j : ℕ) → i ≤ j → IsText keys (take j text ++ rest)
+    → Begins keys (take i text)
+begins-shorter {keys} text rest i j h t =
+    record { rest = drop i (take j text) ++ rest; text = subst (λ (l : List ℕ). IsText keys l) again t }
+  where
+    again : take j text ++ rest ≡ take i text ++ (drop i (take j text) ++ rest)
+    again =
+        ap (λ (l : List ℕ). l ++ rest) (sym (take-append-drop i (take j text)) ∙ ap (λ (l : List ℕ). l ++ drop i (take j text)) (take-take i j text h))
+        ∙ append-assoc (take i text) (drop i (take j text)) rest
+
+-- a text of the form begins with each of its beginnings
+begins-with : {keys : List (List ℕ)} {text : List ℕ} (i : ℕ) → IsText keys text → Begins keys (take i text)
+begins-with {keys} {text} i t =
+    record { rest = drop i text; text = subst (λ (l : List ℕ). IsText keys l) (sym (take-append-drop i text)) t }
+
+-- from the rule alone: a text has one fault at most, and a text of the form has none
+pub fault-high : {keys : List (List ℕ)} {text : List ℕ} {j : ℕ} → FaultAt keys text j → j ≤ length text
+fault-high f = ⊎-elim (λ c. omega arith) (λ c. omega arith) (f .here)
+
+fault-not-before : {keys : List (List ℕ)} {text : List ℕ} {i j : ℕ} → FaultAt keys text i → FaultAt keys text j → i < j → ⊥
+fault-not-before {i} f g h = ⊎-elim (λ c. c .1 (g .before i h)) (λ c. omega (arith, c .0, fault-high g)) (f .here)
+
+pub fault-once : {keys : List (List ℕ)} {text : List ℕ} {i j : ℕ} → FaultAt keys text i → FaultAt keys text j → i ≡ j
+fault-once {i} {j} f g =
+    elim (decLt i j) [
+      | yes h ↦ absurd (fault-not-before f g h)
+      | no h ↦ elim (decLt j i) [
+        | yes l ↦ absurd (fault-not-before g f l)
+        | no l ↦ omega arith
+      ]
+    ]
+
+pub form-faultless : {keys : List (List ℕ)} {text : List ℕ} {j : ℕ} → IsText keys text → FaultAt keys text j → ⊥
+form-faultless {j} t f = ⊎-elim (λ c. c .1 (begins-with (suc j) t)) (λ c. c .1 t) (f .here)
+
+-- reading finds the place of the rule
+module _ (keys : List (List ℕ)) (bytes : every isKey keys ≡ true) (text : List ℕ) (j : ℕ) where
+  pub place-sound : textRead keys text ≡ fault j → FaultAt keys text j
+  place-sound e =
+      record {
+        before = λ i h. begins-shorter text (s .rest) (suc i) j h (s .form);
+        here = elim (decLt j (length text)) [
+          | yes h ↦ inl
+            (h, λ b. came-fell (text-whole (b .text))
+                (text-local keys text j _ way h (take-at (take (suc j) text) (b .rest) (suc j) (length-take-le (suc j) text h))))
+          | no h ↦ inr (omega (arith, s .high), λ t. came-fell (text-whole t) e)
+        ];
+      }
+    where
+      way : Faulted keys text j
+      way = faulted keys text j e
+
+      s : TextStuck keys text j
+      s = text-stuck keys text j bytes way
+
+pub place-exact : (keys : List (List ℕ)) (bytes : every isKey keys ≡ true) (text : List ℕ) (j : ℕ) → FaultAt keys text j
+    → textRead keys text ≡ fault j
+place-exact keys bytes text j f =
+    elim (outcome (textRead keys text)) [
+      | came words next e ↦ absurd (form-faultless (text-form keys text words next e) f)
+      | fell i e ↦ e ∙ ap fault (fault-once (place-sound keys bytes text i e) f)
+    ]
