@@ -16,4 +16,6 @@ pub mod Ticks
 pub mod Units
 pub mod Fresh
 pub mod Examples
+pub mod Lists
+pub mod TextLine
 pub mod TextExamples
