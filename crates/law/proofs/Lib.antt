@@ -18,4 +18,5 @@ pub mod Fresh
 pub mod Examples
 pub mod Lists
 pub mod TextLine
+pub mod TextLines
 pub mod TextExamples
