@@ -19,4 +19,5 @@ pub mod Examples
 pub mod Lists
 pub mod TextLine
 pub mod TextLines
+pub mod TextPlace
 pub mod TextExamples

@@ -50,7 +50,7 @@ line-length : (key v : List ℕ) → length (key ++ (v ++ (10 ∷ []))) ≡ leng
 line-length key v = simp length-append (omega arith)
 
 module _ (text : List ℕ) (at : ℕ) (key v rest : List ℕ) (e : drop at text ≡ key ++ (v ++ (10 ∷ rest))) where
-  line-ahead : drop (at + (length key + suc (length v))) text ≡ rest
+  pub line-ahead : drop (at + (length key + suc (length v))) text ≡ rest
   line-ahead =
       sym (drop-drop (length key + suc (length v)) at text) ∙ ap (drop (length key + suc (length v))) (e ∙ line-apart key v rest)
       ∙ drop-at (key ++ (v ++ (10 ∷ []))) rest _ (line-length key v)
