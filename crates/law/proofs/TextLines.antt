@@ -7,7 +7,7 @@ use Prim.Native.Nat.{ℕ, zero, suc, _+_, _≤_}
 use native.Mathlib.Nat.{add-zero}
 use native.Mathlib.Omega.{arith}
 use lib.ListN.{length, take, drop, length-append}
-use lib.Seq.{take-add, drop-drop, take-at, drop-at}
+use lib.Seq.{take-append-seam, take-add, drop-drop, take-at, drop-at}
 use Rattle.law.specs.Sums.{every}
 use Rattle.law.specs.Text.{keysOf, isValue, numberOf, lines}
 use Rattle.law.specs.Reading.{Found, found, fault, behind, valuesOf, lineAt, linesAt}
@@ -129,6 +129,14 @@ lines-sound text at (key ∷ keys) values next h e =
             lines-cons line (lines-sound text mid keys more next (line .fits) (g ∙ ap (found more) ends)) (sym (ap valuesOf joined))
       ]
     ]
+
+-- the text as far as lines were read
+pub lines-front : {text : List ℕ} {at next : ℕ} {keys : List (List ℕ)} {values : List ℕ} (l : Lines text at keys values next)
+    → take next text ≡ take at text ++ lines keys (l .digits)
+lines-front {text} {at} {next} {keys} l =
+    let all = lines keys (l .digits) in
+    ap (λ (n : ℕ). take n text) (l .after) ∙ take-add at (length all) text
+    ∙ ap (λ (back : List ℕ). take at text ++ back) (ap (take (length all)) (l .there) ∙ take-append-seam all (drop next text))
 
 -- lines of zeros, for keys that nothing was read for yet
 pub zeros : List (List ℕ) → List (List ℕ)

@@ -1,20 +1,21 @@
 -- A whole text: reading finds exactly the texts of the form, and the place of a fault is the one of document 01's rule, to the byte.
-use mathlib.Core.Bool.{true}
-use mathlib.Core.List.{List, [], _∷_, _++_, map, append-nil}
-use mathlib.Core.Path.{_≡_, sym, ap, _∙_}
-use Prim.Native.Nat.{ℕ, suc, _+_}
-use native.Mathlib.Decide.{ℕ-discrete}
+use mathlib.Core.Bool.{Bool, true, false}
+use mathlib.Core.List.{List, [], _∷_, _++_, map, append-assoc, append-nil}
+use mathlib.Core.Logic.{_⊎_, inl, inr, ⊎-elim}
+use mathlib.Core.Path.{_≡_, refl, sym, ap, _∙_, subst}
+use Prim.Native.Nat.{ℕ, zero, suc, _+_, _≤_, _<_}
+use native.Mathlib.Decide.{decLt, ℕ-discrete}
 use native.Mathlib.Omega.{arith}
-use lib.ListN.{length, drop, length-append, length-map, drop-of-length-le}
-use lib.Seq.{}
+use lib.ListN.{length, take, drop, length-append, length-take, length-map, take-append-drop, drop-of-length-le}
+use lib.Seq.{take-take, take-at, length-take-le}
 use borrow.Author.Tests.{eq-eqb, ne-eqb}
-use Rattle.law.specs.Sums.{every}
+use Rattle.law.specs.Sums.{both, every}
 use Rattle.law.specs.Refusal.{head}
-use Rattle.law.specs.Text.{rowsKey, keysOf, isValue, numberOf, lines, IsText}
-use Rattle.law.specs.Reading.{found, fault, valuesOf, lineAt, linesAt, rowsAt, textRead}
+use Rattle.law.specs.Text.{rowsKey, keysOf, isValue, numberOf, lines, IsText, Begins, FaultAt}
+use Rattle.law.specs.Reading.{Found, found, fault, valuesOf, lineAt, linesAt, rowsAt, textRead}
 use Rattle.law.proofs.Tests.{both-left, both-right, both-true}
-use Rattle.law.proofs.TextLine.{reached, Line, line-whole, line-sound}
-use Rattle.law.proofs.TextLines.{came, fell, outcome, came-fell, line-ahead, Lines, lines-whole, lines-sound}
+use Rattle.law.proofs.TextLine.{isKey, reached, Line, Stuck, line-whole, line-sound, line-stuck, line-local}
+use Rattle.law.proofs.TextLines.{came, fell, outcome, came-fell, line-ahead, Lines, lines-whole, lines-sound, LinesStuck, lines-stuck, whole-behind, line-before, zeros, zeros-good, zeros-many, lines-front, keys-bytes, lines-low, lines-local}
 
 -- the first line, then the rows to the end of the text
 module _ (keys : List (List ℕ)) (text : List ℕ) where
@@ -129,3 +130,91 @@ module _ (keys : List (List ℕ)) (text : List ℕ) where
         many = sym (ap length (ap valuesOf same)) ∙ length-map (t .values) numberOf ∙ t .many;
         counted = text-first t;
       }
+
+-- the three places where a text can fault: in its first line, in a line of its rows, behind them
+data Faulted (keys : List (List ℕ)) (text : List ℕ) (j : ℕ) : Type 0 where
+  at-first : lineAt text 0 rowsKey ≡ fault j → Faulted keys text j
+  in-rows : (count : List ℕ) (mid : ℕ) → lineAt text 0 rowsKey ≡ found count mid → linesAt text mid (keysOf keys (head count)) ≡ fault j
+      → Faulted keys text j
+  past-rows : (count : List ℕ) (mid : ℕ) (words : List ℕ) → lineAt text 0 rowsKey ≡ found count mid
+      → linesAt text mid (keysOf keys (head count)) ≡ found words j → (j ≡ length text → ⊥) → Faulted keys text j
+
+-- the good part before a fault, and what makes it a text
+record TextStuck (keys : List (List ℕ)) (text : List ℕ) (j : ℕ) : Type 0 where
+  high : j ≤ length text
+  rest : List ℕ
+  form : IsText keys (take j text ++ rest)
+
+rows-key : isKey rowsKey ≡ true
+unfolding every
+rows-key = refl
+
+module _ (keys : List (List ℕ)) (text : List ℕ) (j : ℕ) where
+  faulted : textRead keys text ≡ fault j → Faulted keys text j
+  faulted e =
+      elim (outcome (lineAt text 0 rowsKey)) [
+        | fell i f ↦ at-first (f ∙ sym (read-cut keys text i f) ∙ e)
+        | came count mid f ↦ elim (outcome (linesAt text mid (keysOf keys (head count)))) [
+          | fell i g ↦ in-rows count mid f (g ∙ sym (read-on keys text count mid f ∙ rows-cut keys text mid _ i g) ∙ e)
+          | came ws last g ↦ elim (ℕ-discrete last (length text)) [
+            | no h ↦
+              let all = read-on keys text count mid f ∙ rows-more keys text mid _ last ws g h in
+              let same : last ≡ j = omega (arith, ap reached (sym all ∙ e)) in
+              past-rows count mid ws f (g ∙ ap (found ws) same) (λ q. h (same ∙ q))
+            | yes h ↦ absurd (came-fell (read-on keys text count mid f ∙ rows-end keys text mid _ last ws g h) e)
+          ]
+        ]
+      ]
+
+  text-stuck : every isKey keys ≡ true → Faulted keys text j → TextStuck keys text j
+  text-stuck bytes f =
+      elim f [
+        | at-first e ↦
+          let s = line-stuck text 0 rowsKey rows-key (omega arith) j e in
+          let n = numberOf (s .digits) in
+          let others = zeros (keysOf keys n) in
+          record {
+            high = s .high;
+            rest = s .rest ++ lines (keysOf keys n) others;
+            form = form-of n (s .digits) others refl (s .good) (zeros-good (keysOf keys n)) (zeros-many (keysOf keys n))
+                (whole-behind s (lines (keysOf keys n) others));
+          }
+        | in-rows count mid e g ↦
+          let first = line-sound text 0 rowsKey count mid e in
+          let s = lines-stuck text mid _ j (keys-bytes keys (head count) bytes) (first .fits) g in
+          record {
+            high = s .high;
+            rest = s .rest;
+            form = form-of (head count) (first .digits) (s .digits) (sym (ap head (first .word))) (first .good) (s .good) (s .many)
+                (s .whole ∙ line-before first (lines (keysOf keys (head count)) (s .digits)));
+          }
+        | past-rows count mid words e g h ↦
+          let first = line-sound text 0 rowsKey count mid e in
+          let l = lines-sound text mid _ words j (first .fits) g in
+          record {
+            high = l .fits;
+            rest = [];
+            form = form-of (head count) (first .digits) (l .digits) (sym (ap head (first .word))) (first .good) (l .good) (l .many)
+                (append-nil (take j text) ∙ lines-front l ∙ line-before first (lines (keysOf keys (head count)) (l .digits)));
+          }
+      ]
+
+  -- a text with the same beginning has the same fault
+  text-local : (other : List ℕ) → Faulted keys text j → j < length text → take (suc j) other ≡ take (suc j) text
+      → textRead keys other ≡ fault j
+  text-local other f h same =
+      elim f [
+        | at-first e ↦ read-cut keys other j (line-local text 0 rowsKey other (suc j) same (omega (arith, ap reached e)) ∙ e)
+        | in-rows count mid e g ↦
+          let past = lines-low text mid (keysOf keys (head count)) in
+          let first = line-local text 0 rowsKey other (suc j) same (omega (arith, ap reached e, ap reached g)) in
+          let others = lines-local text other (suc j) same mid (keysOf keys (head count)) (omega (arith, ap reached g)) in
+          read-on keys other count mid (first ∙ e) ∙ rows-cut keys other mid _ j (others ∙ g)
+        | past-rows count mid words e g q ↦
+          let past = lines-low text mid (keysOf keys (head count)) in
+          let first = line-local text 0 rowsKey other (suc j) same (omega (arith, ap reached e, ap reached g)) in
+          let others = lines-local text other (suc j) same mid (keysOf keys (head count)) (omega (arith, ap reached g)) in
+          read-on keys other count mid (first ∙ e)
+          ∙ rows-more keys other mid _ j words (others ∙ g)
+              (λ ends. omega (arith, length-take (suc j) other, length-take (suc j) text, ap length same))
+      ]
