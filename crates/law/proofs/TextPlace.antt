@@ -218,3 +218,67 @@ module _ (keys : List (List ℕ)) (text : List ℕ) (j : ℕ) where
           ∙ rows-more keys other mid _ j words (others ∙ g)
               (λ ends. omega (arith, length-take (suc j) other, length-take (suc j) text, ap length same))
       ]
+
+-- what begins a beginning begins the same text
+begins-shorter : {keys : List (List ℕ)} (text rest : List ℕ) (i j : ℕ) → i ≤ j → IsText keys (take j text ++ rest)
+    → Begins keys (take i text)
+begins-shorter {keys} text rest i j h t =
+    record { rest = drop i (take j text) ++ rest; text = subst (λ (l : List ℕ). IsText keys l) again t }
+  where
+    again : take j text ++ rest ≡ take i text ++ (drop i (take j text) ++ rest)
+    again =
+        ap (λ (l : List ℕ). l ++ rest) (sym (take-append-drop i (take j text)) ∙ ap (λ (l : List ℕ). l ++ drop i (take j text)) (take-take i j text h))
+        ∙ append-assoc (take i text) (drop i (take j text)) rest
+
+-- a text of the form begins with each of its beginnings
+begins-with : {keys : List (List ℕ)} {text : List ℕ} (i : ℕ) → IsText keys text → Begins keys (take i text)
+begins-with {keys} {text} i t =
+    record { rest = drop i text; text = subst (λ (l : List ℕ). IsText keys l) (sym (take-append-drop i text)) t }
+
+-- from the rule alone: a text has one fault at most, and a text of the form has none
+pub fault-high : {keys : List (List ℕ)} {text : List ℕ} {j : ℕ} → FaultAt keys text j → j ≤ length text
+fault-high f = ⊎-elim (λ c. omega arith) (λ c. omega arith) (f .here)
+
+fault-not-before : {keys : List (List ℕ)} {text : List ℕ} {i j : ℕ} → FaultAt keys text i → FaultAt keys text j → i < j → ⊥
+fault-not-before {i} f g h = ⊎-elim (λ c. c .1 (g .before i h)) (λ c. omega (arith, c .0, fault-high g)) (f .here)
+
+pub fault-once : {keys : List (List ℕ)} {text : List ℕ} {i j : ℕ} → FaultAt keys text i → FaultAt keys text j → i ≡ j
+fault-once {i} {j} f g =
+    elim (decLt i j) [
+      | yes h ↦ absurd (fault-not-before f g h)
+      | no h ↦ elim (decLt j i) [
+        | yes l ↦ absurd (fault-not-before g f l)
+        | no l ↦ omega arith
+      ]
+    ]
+
+pub form-faultless : {keys : List (List ℕ)} {text : List ℕ} {j : ℕ} → IsText keys text → FaultAt keys text j → ⊥
+form-faultless {j} t f = ⊎-elim (λ c. c .1 (begins-with (suc j) t)) (λ c. c .1 t) (f .here)
+
+-- reading finds the place of the rule
+module _ (keys : List (List ℕ)) (bytes : every isKey keys ≡ true) (text : List ℕ) (j : ℕ) where
+  pub place-sound : textRead keys text ≡ fault j → FaultAt keys text j
+  place-sound e =
+      record {
+        before = λ i h. begins-shorter text (s .rest) (suc i) j h (s .form);
+        here = elim (decLt j (length text)) [
+          | yes h ↦ inl
+            (h, λ b. came-fell (text-whole (b .text))
+                (text-local keys text j _ way h (take-at (take (suc j) text) (b .rest) (suc j) (length-take-le (suc j) text h))))
+          | no h ↦ inr (omega (arith, s .high), λ t. came-fell (text-whole t) e)
+        ];
+      }
+    where
+      way : Faulted keys text j
+      way = faulted keys text j e
+
+      s : TextStuck keys text j
+      s = text-stuck keys text j bytes way
+
+pub place-exact : (keys : List (List ℕ)) (bytes : every isKey keys ≡ true) (text : List ℕ) (j : ℕ) → FaultAt keys text j
+    → textRead keys text ≡ fault j
+place-exact keys bytes text j f =
+    elim (outcome (textRead keys text)) [
+      | came words next e ↦ absurd (form-faultless (text-form keys text words next e) f)
+      | fell i e ↦ e ∙ ap fault (fault-once (place-sound keys bytes text i e) f)
+    ]
