@@ -3,19 +3,18 @@ use mathlib.Core.Bool.{Bool, true, false, not}
 use mathlib.Core.List.{List, [], _∷_}
 use mathlib.Core.Logic.{_⊎_, inl, inr, ⊎-elim}
 use mathlib.Core.Path.{_≡_, refl, sym, ap, _∙_}
-use Prim.Native.Nat.{ℕ, zero, suc, _+_, _*_, _/_, _%_, _≤_, _<_}
+use Prim.Native.Nat.{ℕ, suc, _/_, _%_, _≤_, _<_}
 use native.Mathlib.Decide.{decLt}
 use native.Mathlib.Nat.{le-of-eq, ne-of-lt}
 use native.Mathlib.Omega.{arith}
 use lib.Dec.{leb, ltb, eqb}
-use lib.ListN.{length, getD}
+use lib.ListN.{length}
 use borrow.Author.Tests.{ltb-false, ltb-true, leb-true, eqb-true, eqb-false, le-ltb, eq-eqb, ne-eqb, not-true, not-false}
-use Rattle.law.specs.Sums.{bit, pick, firstFrom, first}
-use Rattle.law.specs.Refusal.{Answer, accepted, refused, orRefused, within}
-use Rattle.law.specs.Pattern.{InRange}
+use Rattle.law.specs.Sums.{pick, first}
+use Rattle.law.specs.Refusal.{Answer, accepted, refused, orRefused, within, codeOf}
 use Rattle.law.specs.Table.{Task, width, taskAt, tableOf, row, noTask, Ranged, WellFormed, repeated, faultOf, rowFault, faulty, rowsChecked, checked}
 use Rattle.law.proofs.Question.{within-low, within-high, within-is, in-range}
-use Rattle.law.proofs.First.{first-before, first-is, build-length, build-at}
+use Rattle.law.proofs.First.{first-before, first-found, first-high, first-is, build-length, build-at}
 
 pub table-length : (words : List ℕ) → length (tableOf words) ≡ length words / width
 unfolding tableOf
@@ -90,6 +89,21 @@ rows-refused tasks i e h = rw (e, ne-eqb i (length tasks) (λ q. omega arith))
 pub rows-accepted : (tasks : List Task) → faulty tasks ≡ length tasks → rowsChecked tasks ≡ accepted (length tasks ∷ [])
 unfolding rowsChecked
 rows-accepted tasks e = rw (eq-eqb (faulty tasks) (length tasks) e)
+
+-- so the rows are refused by the numbers 4 to 10 alone
+pub rows-number : (tasks : List Task) (n : ℕ) (also : List ℕ) → rowsChecked tasks ≡ refused n also → (4 ≤ n) × (n ≤ 10)
+unfolding faulty
+rows-number tasks n also e =
+    elim (decLt (faulty tasks) (length tasks)) [
+      | yes h ↦
+          let number : rowFault tasks (faulty tasks) ≡ n = ap codeOf (sym (rows-refused tasks (faulty tasks) refl h) ∙ e) in
+          let range = fault-range (row tasks (faulty tasks)) (repeated tasks (faulty tasks))
+          (eqb-false _ 0 (not-true _ (first-found (λ i. not (eqb (rowFault tasks i) 0)) 0 (length tasks) (omega arith)))) in
+          omega arith
+      | no h ↦
+          let clean = rows-accepted tasks (omega (arith, first-high (λ i. not (eqb (rowFault tasks i) 0)) 0 (length tasks))) in
+          absurd (let z : _≡_ {A = ℕ} 0 1 = cc in omega arith)
+    ]
 
 module _ (tasks : List Task) (all : faulty tasks ≡ length tasks) where
   -- no row has a fault

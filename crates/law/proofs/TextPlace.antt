@@ -3,19 +3,22 @@ use mathlib.Core.Bool.{Bool, true, false}
 use mathlib.Core.List.{List, [], _∷_, _++_, map, append-assoc, append-nil}
 use mathlib.Core.Logic.{_⊎_, inl, inr, ⊎-elim}
 use mathlib.Core.Path.{_≡_, refl, sym, ap, _∙_, subst}
-use Prim.Native.Nat.{ℕ, zero, suc, _+_, _≤_, _<_}
+use Prim.Native.Nat.{ℕ, suc, _+_, _≤_, _<_}
 use native.Mathlib.Decide.{decLt, ℕ-discrete}
 use native.Mathlib.Omega.{arith}
 use lib.ListN.{length, take, drop, length-append, length-take, length-map, take-append-drop, drop-of-length-le}
 use lib.Seq.{take-take, take-at, length-take-le}
-use borrow.Author.Tests.{eq-eqb, ne-eqb}
-use Rattle.law.specs.Sums.{both, every}
-use Rattle.law.specs.Refusal.{head}
-use Rattle.law.specs.Text.{rowsKey, keysOf, isValue, numberOf, lines, IsText, Begins, FaultAt}
-use Rattle.law.specs.Reading.{Found, found, fault, valuesOf, lineAt, linesAt, rowsAt, textRead}
+use lib.Dec.{leb, ltb}
+use borrow.Author.Tests.{lt-ltb, le-leb, eq-eqb, ne-eqb}
+use Rattle.law.specs.Sums.{every}
+use Rattle.law.specs.Refusal.{Answer, accepted, refused, orRefused, after, head, codeOf, valueOf}
+use Rattle.law.specs.Table.{tableOf, rowsChecked}
+use Rattle.law.specs.Text.{rowsKey, rowKeys, keysOf, isValue, numberOf, lines, IsText, Begins, FaultAt}
+use Rattle.law.specs.Reading.{found, fault, valuesOf, lineAt, linesAt, rowsAt, textRead, rowsAnswer, firstAnswer, readAnswer}
 use Rattle.law.proofs.Tests.{both-left, both-right, both-true}
-use Rattle.law.proofs.TextLine.{isKey, reached, Line, Stuck, line-whole, line-sound, line-stuck, line-local}
-use Rattle.law.proofs.TextLines.{came, fell, outcome, came-fell, line-ahead, Lines, lines-whole, lines-sound, LinesStuck, lines-stuck, whole-behind, line-before, zeros, zeros-good, zeros-many, lines-front, keys-bytes, lines-low, lines-local}
+use Rattle.law.proofs.Table.{rows-number}
+use Rattle.law.proofs.TextLine.{isKey, reached, Line, line-whole, line-sound, line-stuck, line-local}
+use Rattle.law.proofs.TextLines.{came, fell, outcome, came-fell, line-ahead, Lines, lines-whole, lines-sound, lines-stuck, whole-behind, line-before, zeros, zeros-good, zeros-many, lines-front, keys-bytes, lines-low, lines-local}
 
 -- the first line, then the rows to the end of the text
 module _ (keys : List (List ℕ)) (text : List ℕ) where
@@ -158,9 +161,9 @@ module _ (keys : List (List ℕ)) (text : List ℕ) (j : ℕ) where
           | fell i g ↦ in-rows count mid f (g ∙ sym (read-on keys text count mid f ∙ rows-cut keys text mid _ i g) ∙ e)
           | came ws last g ↦ elim (ℕ-discrete last (length text)) [
             | no h ↦
-              let all = read-on keys text count mid f ∙ rows-more keys text mid _ last ws g h in
-              let same : last ≡ j = omega (arith, ap reached (sym all ∙ e)) in
-              past-rows count mid ws f (g ∙ ap (found ws) same) (λ q. h (same ∙ q))
+                let all = read-on keys text count mid f ∙ rows-more keys text mid _ last ws g h in
+                let same : last ≡ j = omega (arith, ap reached (sym all ∙ e)) in
+                past-rows count mid ws f (g ∙ ap (found ws) same) (λ q. h (same ∙ q))
             | yes h ↦ absurd (came-fell (read-on keys text count mid f ∙ rows-end keys text mid _ last ws g h) e)
           ]
         ]
@@ -170,33 +173,33 @@ module _ (keys : List (List ℕ)) (text : List ℕ) (j : ℕ) where
   text-stuck bytes f =
       elim f [
         | at-first e ↦
-          let s = line-stuck text 0 rowsKey rows-key (omega arith) j e in
-          let n = numberOf (s .digits) in
-          let others = zeros (keysOf keys n) in
-          record {
-            high = s .high;
-            rest = s .rest ++ lines (keysOf keys n) others;
-            form = form-of n (s .digits) others refl (s .good) (zeros-good (keysOf keys n)) (zeros-many (keysOf keys n))
-                (whole-behind s (lines (keysOf keys n) others));
-          }
+            let s = line-stuck text 0 rowsKey rows-key (omega arith) j e in
+            let n = numberOf (s .digits) in
+            let others = zeros (keysOf keys n) in
+            record {
+              high = s .high;
+              rest = s .rest ++ lines (keysOf keys n) others;
+              form = form-of n (s .digits) others refl (s .good) (zeros-good (keysOf keys n)) (zeros-many (keysOf keys n))
+                  (whole-behind s (lines (keysOf keys n) others));
+            }
         | in-rows count mid e g ↦
-          let first = line-sound text 0 rowsKey count mid e in
-          let s = lines-stuck text mid _ j (keys-bytes keys (head count) bytes) (first .fits) g in
-          record {
-            high = s .high;
-            rest = s .rest;
-            form = form-of (head count) (first .digits) (s .digits) (sym (ap head (first .word))) (first .good) (s .good) (s .many)
-                (s .whole ∙ line-before first (lines (keysOf keys (head count)) (s .digits)));
-          }
+            let first = line-sound text 0 rowsKey count mid e in
+            let s = lines-stuck text mid _ j (keys-bytes keys (head count) bytes) (first .fits) g in
+            record {
+              high = s .high;
+              rest = s .rest;
+              form = form-of (head count) (first .digits) (s .digits) (sym (ap head (first .word))) (first .good) (s .good) (s .many)
+                  (s .whole ∙ line-before first (lines (keysOf keys (head count)) (s .digits)));
+            }
         | past-rows count mid words e g h ↦
-          let first = line-sound text 0 rowsKey count mid e in
-          let l = lines-sound text mid _ words j (first .fits) g in
-          record {
-            high = l .fits;
-            rest = [];
-            form = form-of (head count) (first .digits) (l .digits) (sym (ap head (first .word))) (first .good) (l .good) (l .many)
-                (append-nil (take j text) ∙ lines-front l ∙ line-before first (lines (keysOf keys (head count)) (l .digits)));
-          }
+            let first = line-sound text 0 rowsKey count mid e in
+            let l = lines-sound text mid _ words j (first .fits) g in
+            record {
+              high = l .fits;
+              rest = [];
+              form = form-of (head count) (first .digits) (l .digits) (sym (ap head (first .word))) (first .good) (l .good) (l .many)
+                  (append-nil (take j text) ∙ lines-front l ∙ line-before first (lines (keysOf keys (head count)) (l .digits)));
+            }
       ]
 
   -- a text with the same beginning has the same fault
@@ -206,17 +209,17 @@ module _ (keys : List (List ℕ)) (text : List ℕ) (j : ℕ) where
       elim f [
         | at-first e ↦ read-cut keys other j (line-local text 0 rowsKey other (suc j) same (omega (arith, ap reached e)) ∙ e)
         | in-rows count mid e g ↦
-          let past = lines-low text mid (keysOf keys (head count)) in
-          let first = line-local text 0 rowsKey other (suc j) same (omega (arith, ap reached e, ap reached g)) in
-          let others = lines-local text other (suc j) same mid (keysOf keys (head count)) (omega (arith, ap reached g)) in
-          read-on keys other count mid (first ∙ e) ∙ rows-cut keys other mid _ j (others ∙ g)
+            let past = lines-low text mid (keysOf keys (head count)) in
+            let first = line-local text 0 rowsKey other (suc j) same (omega (arith, ap reached e, ap reached g)) in
+            let others = lines-local text other (suc j) same mid (keysOf keys (head count)) (omega (arith, ap reached g)) in
+            read-on keys other count mid (first ∙ e) ∙ rows-cut keys other mid _ j (others ∙ g)
         | past-rows count mid words e g q ↦
-          let past = lines-low text mid (keysOf keys (head count)) in
-          let first = line-local text 0 rowsKey other (suc j) same (omega (arith, ap reached e, ap reached g)) in
-          let others = lines-local text other (suc j) same mid (keysOf keys (head count)) (omega (arith, ap reached g)) in
-          read-on keys other count mid (first ∙ e)
-          ∙ rows-more keys other mid _ j words (others ∙ g)
-              (λ ends. omega (arith, length-take (suc j) other, length-take (suc j) text, ap length same))
+            let past = lines-low text mid (keysOf keys (head count)) in
+            let first = line-local text 0 rowsKey other (suc j) same (omega (arith, ap reached e, ap reached g)) in
+            let others = lines-local text other (suc j) same mid (keysOf keys (head count)) (omega (arith, ap reached g)) in
+            read-on keys other count mid (first ∙ e)
+            ∙ rows-more keys other mid _ j words (others ∙ g)
+            (λ ends. omega (arith, length-take (suc j) other, length-take (suc j) text, ap length same))
       ]
 
 -- what begins a beginning begins the same text
@@ -262,9 +265,11 @@ module _ (keys : List (List ℕ)) (bytes : every isKey keys ≡ true) (text : Li
       record {
         before = λ i h. begins-shorter text (s .rest) (suc i) j h (s .form);
         here = elim (decLt j (length text)) [
-          | yes h ↦ inl
-            (h, λ b. came-fell (text-whole (b .text))
-                (text-local keys text j _ way h (take-at (take (suc j) text) (b .rest) (suc j) (length-take-le (suc j) text h))))
+          | yes h ↦ inl (
+            h,
+            λ b. came-fell (text-whole (b .text))
+                (text-local keys text j _ way h (take-at (take (suc j) text) (b .rest) (suc j) (length-take-le (suc j) text h))),
+          )
           | no h ↦ inr (omega (arith, s .high), λ t. came-fell (text-whole t) e)
         ];
       }
@@ -282,3 +287,58 @@ place-exact keys bytes text j f =
       | came words next e ↦ absurd (form-faultless (text-form keys text words next e) f)
       | fell i e ↦ e ∙ ap fault (fault-once (place-sound keys bytes text i e) f)
     ]
+
+-- the answer of reading: number 12 comes with the place of the rule
+pub row-keys : every isKey rowKeys ≡ true
+unfolding every
+row-keys = refl
+
+-- another number is not 12
+passed-by : (b : Bool) (n : ℕ) (also : List ℕ) (next : Answer) → (n ≡ 12 → ⊥) → orRefused b (refused n []) next ≡ refused 12 also
+    → next ≡ refused 12 also
+passed-by true n also next h e = e
+passed-by false n also next h e = absurd (h (ap codeOf e))
+
+rows-not-twelve : (room next : ℕ) (words also : List ℕ) → rowsAnswer room (found words next) ≡ refused 12 also → ⊥
+rows-not-twelve room next words also e = by (rowsChecked (tableOf words)) refl e
+  where
+    by : (a : Answer) → rowsChecked (tableOf words) ≡ a
+        → after a (orRefused (leb (length words) room) (refused 13 []) (accepted (length (tableOf words) ∷ []))) ≡ refused 12 also → ⊥
+    by (accepted vs) c e = absurd (omega (arith, ap codeOf (passed-by (leb (length words) room) 13 also _ (λ q. omega arith) e)))
+    by (refused n vs) c e = absurd (omega (arith, ap codeOf e, rows-number (tableOf words) n vs c .1))
+
+rows-twelve : (text : List ℕ) (room at n j : ℕ) → rowsAnswer room (rowsAt rowKeys text at n) ≡ refused 12 (j ∷ [])
+    → rowsAt rowKeys text at n ≡ fault j
+rows-twelve text room at n j e =
+    elim (outcome (rowsAt rowKeys text at n)) [
+      | came words next f ↦ absurd (rows-not-twelve room next words (j ∷ []) (sym (ap (rowsAnswer room) f) ∙ e))
+      | fell i f ↦ f ∙ ap fault (ap valueOf (sym (ap (rowsAnswer room) f) ∙ e))
+    ]
+
+twelve-read : (text : List ℕ) (room j : ℕ) → readAnswer text room ≡ refused 12 (j ∷ []) → textRead rowKeys text ≡ fault j
+unfolding readAnswer
+twelve-read text room j e =
+    elim (outcome (lineAt text 0 rowsKey)) [
+      | fell i f ↦ read-cut rowKeys text i f ∙ ap fault (ap valueOf (sym (ap (firstAnswer text room) f) ∙ e))
+      | came count next f ↦
+          let low = passed-by (ltb 0 (head count)) 2 (j ∷ []) _ (λ q. omega arith) (sym (ap (firstAnswer text room) f) ∙ e) in
+          let high = passed-by (leb (head count) 32) 3 (j ∷ []) _ (λ q. omega arith) low in
+          read-on rowKeys text count next f ∙ rows-twelve text room next (head count) j high
+    ]
+
+pub refused-twelve : (text : List ℕ) (room j : ℕ) → readAnswer text room ≡ refused 12 (j ∷ []) → FaultAt rowKeys text j
+refused-twelve text room j e = place-sound rowKeys row-keys text j (twelve-read text room j e)
+
+-- the first line that leads to 12: it is not whole, or its number of rows is in its range
+pub data LeadsOn (text : List ℕ) : Type 0 where
+  broken : (i : ℕ) → lineAt text 0 rowsKey ≡ fault i → LeadsOn text
+  counts : (n next : ℕ) → lineAt text 0 rowsKey ≡ found (n ∷ []) next → 1 ≤ n → n ≤ 32 → LeadsOn text
+
+pub twelve-exact : (text : List ℕ) (room j : ℕ) → FaultAt rowKeys text j → LeadsOn text → readAnswer text room ≡ refused 12 (j ∷ [])
+unfolding readAnswer
+twelve-exact text room j f (broken i e) =
+    let same : fault i ≡ fault j = sym (read-cut rowKeys text i e) ∙ place-exact rowKeys row-keys text j f in
+    ap (firstAnswer text room) (e ∙ same)
+twelve-exact text room j f (counts n next e low high) =
+    let rows : rowsAt rowKeys text next n ≡ fault j = sym (read-on rowKeys text (n ∷ []) next e) ∙ place-exact rowKeys row-keys text j f in
+    rw (e, lt-ltb 0 n low, le-leb n 32 high, rows)
