@@ -25,5 +25,6 @@ pub mod TextDecimal
 pub mod Words
 pub mod TextLongest
 pub mod TextTrips
+pub mod TextWrite
 pub mod TextExamples
 pub mod ReportExamples

@@ -1,4 +1,5 @@
 -- How the enum `Refusal` is read: its number in document 01, and the row or place that is also returned.
+use mathlib.Core.Bool.{Bool, true, false}
 use mathlib.Core.List.{List, [], _∷_}
 use Prim.Native.Nat.{ℕ}
 use Rattle.law.specs.Refusal.{Answer, refused}
@@ -38,6 +39,14 @@ alsoOf (Text place) = place ∷ []
 alsoOf Room = []
 alsoOf State = []
 alsoOf Clock = []
+
+-- whether there is one
+abbrev pub isSome : List ℕ → Bool
+isSome [] = false
+isSome (v ∷ vs) = true
+
+abbrev pub hasAlso : Refusal → Bool
+hasAlso r = isSome (alsoOf r)
 
 abbrev pub shown : Refusal → Answer
 shown r = refused (numberOf r) (alsoOf r)

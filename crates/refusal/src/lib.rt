@@ -1,7 +1,7 @@
 // The refusals of document 01: one enum, made where the fault is found and numbered here, once.
 ghost use mathlib.Core.Path.{_≡_};
 ghost use Rattle.law.specs.Refusal.{codeOf, valueOf, within};
-ghost use Rattle.refusal.specs.Shown.{shown};
+ghost use Rattle.refusal.specs.Shown.{shown, hasAlso};
 
 // A refusal and, where document 01 returns one, the row or the place that goes with it.
 pub enum Refusal {
@@ -65,6 +65,29 @@ pub fn also(r: Refusal) -> u64
         Refusal::Room => 0,
         Refusal::State => 0,
         Refusal::Clock => 0,
+    }
+}
+
+// Whether a row or a place goes with a refusal.
+pub fn has_also(r: Refusal) -> bool
+    ensures { λ b. ⌜ b ≡ hasAlso r ⌝ }
+{
+    match r {
+        Refusal::NotWholeRows => false,
+        Refusal::NoRows => false,
+        Refusal::ManyRows => false,
+        Refusal::Id(_) => true,
+        Refusal::T(_) => true,
+        Refusal::D(_) => true,
+        Refusal::C(_) => true,
+        Refusal::K(_) => true,
+        Refusal::M(_) => true,
+        Refusal::Repeated(_) => true,
+        Refusal::Unschedulable(_) => true,
+        Refusal::Text(_) => true,
+        Refusal::Room => false,
+        Refusal::State => false,
+        Refusal::Clock => false,
     }
 }
 

@@ -1,0 +1,2 @@
+// The printing program as a function.
+pub mod print;
