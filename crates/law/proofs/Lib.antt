@@ -17,3 +17,4 @@ pub mod Units
 pub mod Fresh
 pub mod Examples
 pub mod TextExamples
+pub mod TextSteps

@@ -1,0 +1,71 @@
+-- `line::value_length` meets its contract: each way out is a case of `valueLength`, by the byte that the value begins with.
+use mathlib.Core.Bool.{true, false}
+use mathlib.Core.Path.{_≡_, sym, ap, _∙_}
+use Prim.Native.Nat.{_+_}
+use native.Mathlib.Numerals.{add-one}
+use native.Mathlib.Omega.{arith}
+use lib.Dec.{eqb}
+use borrow.Author.Needs.{needs}
+use borrow.Author.Tests.{ne-eqb, not-true, not-false}
+use Rattle.law.specs.Text.{isDigit}
+use Rattle.law.specs.Reading.{byteAt, digitsLength}
+use Rattle.law.proofs.TextSteps.{digit-inside, digits-most, value-nought, value-none, value-some}
+use Rattle.text.proofs.line.value_length.Statement.{statement}
+use Rattle.text.proofs.line.value_length.Tie as tie
+
+abbrev start : tie.After-byte-at → tie.Start
+start b = b .before .before
+
+-- what was asked of the first byte
+not-nought : (c : tie.Else1) → eqb (byteAt (start (c .before) .args .text .now) (start (c .before) .args .at)) 48 ≡ false
+not-nought c = ne-eqb _ 48 (λ e. c .if1 .left (c .before .byte-at .ensures ∙ e))
+
+told : (c : tie.After-is-digit) → c .is-digit .result ≡ isDigit (byteAt (start (c .before .before) .args .text .now) (start (c .before .before) .args .at))
+told c = c .is-digit .ensures ∙ ap isDigit (c .before .before .byte-at .ensures)
+
+some : (c : tie.Else2) → isDigit (byteAt (start (c .before .before .before) .args .text .now) (start (c .before .before .before) .args .at)) ≡ true
+some c = sym (told (c .before)) ∙ not-false _ (c .if2 .left)
+
+byte-at-requires : tie.Need-byte-at-requires
+byte-at-requires c κs = search needs
+
+returns : tie.Need-returns
+returns c = sym (value-nought _ _ (sym (c .before .byte-at .ensures) ∙ c .if1 .taken))
+
+is-digit-requires : tie.Need-is-digit-requires
+is-digit-requires c κs = search needs
+
+returns-2 : tie.Need-returns-2
+returns-2 c = sym (value-none _ _ (sym (told (c .before)) ∙ not-true _ (c .if2 .taken)) (not-nought (c .before .before)))
+
+add-digits-at : tie.Need-add-digits-at
+add-digits-at c = search needs
+
+digits-at-requires : tie.Need-digits-at-requires
+digits-at-requires c κs =
+    let a = start (c .before .before .before) .args in
+    omega (arith, digit-inside (a .text .now) (a .at) (some c))
+
+add-result : tie.Need-add-result
+add-result c =
+    let a = start (c .before .before .before .before) .args in
+    omega (arith, c .digits-at .ensures, digits-most (a .text .now) (a .at + 1))
+
+returns-3 : tie.Need-returns-3
+returns-3 c =
+    let a = start (c .before .before .before .before) .args in
+    let next = ap (digitsLength (a .text .now)) (add-one (a .at)) in
+    omega (arith, c .digits-at .ensures, next, value-some (a .text .now) (a .at) (some (c .before)) (not-nought (c .before .before .before)))
+
+pub value-length-spec : {M : Type 1} → statement M
+value-length-spec =
+    tie.close
+    (tie.spec
+    byte-at-requires
+    returns
+    is-digit-requires
+    returns-2
+    add-digits-at
+    digits-at-requires
+    add-result
+    returns-3)

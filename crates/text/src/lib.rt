@@ -1,0 +1,2 @@
+// Task text: the reader, from a line to the whole text.
+pub mod line;
