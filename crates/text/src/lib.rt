@@ -1,2 +1,3 @@
 // Task text: the reader, from a line to the whole text.
 pub mod line;
+pub mod reader;
