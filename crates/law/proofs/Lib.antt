@@ -16,5 +16,14 @@ pub mod Ticks
 pub mod Units
 pub mod Fresh
 pub mod Examples
+pub mod Lists
+pub mod TextLine
+pub mod TextLines
+pub mod TextPlace
+pub mod TextAnswers
+pub mod TextDecimal
+pub mod Words
+pub mod TextLongest
+pub mod TextTrips
 pub mod TextExamples
 pub mod TextSteps

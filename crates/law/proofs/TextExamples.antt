@@ -1,13 +1,12 @@
 -- Task text by examples: document 01's table read and written, and texts with a fault at a known place.
-use mathlib.Core.List.{List, [], _∷_, _++_}
+use mathlib.Core.List.{List, [], _∷_}
 use mathlib.Core.Path.{_≡_, refl}
-use Prim.Native.Nat.{ℕ, _+_}
-use lib.ListN.{length, take}
-use Rattle.law.specs.Sums.{firstFrom, build, every}
-use Rattle.law.specs.Refusal.{Answer, accepted, refused, within}
-use Rattle.law.specs.Table.{taskOf, tableOf, repeated, faultOf, faulty, rowsChecked, checked}
+use Prim.Native.Nat.{ℕ}
+use Rattle.law.specs.Sums.{firstFrom, build}
+use Rattle.law.specs.Refusal.{accepted, within}
+use Rattle.law.specs.Table.{taskOf, tableOf, repeated, faultOf, faulty, rowsChecked}
 use Rattle.law.specs.Text.{rowKeys, keysOf, isDigit, numberFrom, lines}
-use Rattle.law.specs.Reading.{keyLength, digitsLength, valueLength, valueOfLength, valueAt, lineAt, linesAt, rowsAt, textRead, readAnswer, wordsRead, decimalOf, decimal, textOf, writeAnswer}
+use Rattle.law.specs.Reading.{keyLength, digitsLength, valueLength, valueOfLength, valueAt, lineAt, linesAt, rowsAt, textRead, readAnswer, wordsRead, decimalOf, decimal, textOf}
 
 -- the words of document 01's table, and its text
 words : List ℕ
