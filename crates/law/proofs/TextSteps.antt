@@ -1,181 +1,85 @@
--- Reading a task text step by step: the digits and the value of a line, its number, where a line ends, and lines behind lines.
-use mathlib.Core.Bool.{Bool, true, false, not}
-use mathlib.Core.List.{List, [], _∷_, _++_}
-use mathlib.Core.Path.{_≡_, refl, ap, _∙_}
+-- Reading a task text as a loop does it: the digits of a value one after the other, the ways out of a line, and the lines read so far before those to come.
+use mathlib.Core.Bool.{Bool, true, false}
+use mathlib.Core.List.{List, [], _∷_, _++_, append-assoc, append-nil}
+use mathlib.Core.Path.{_≡_, refl, sym, ap, _∙_}
 use Prim.Native.Nat.{ℕ, zero, suc, _+_, _-_, _*_, _^_, _≤_, _<_}
-use native.Mathlib.Decide.{decLt}
-use native.Mathlib.Nat.{pow-le-pow-right}
+use native.Mathlib.Nat.{add-zero, pow-le-pow-right}
 use native.Mathlib.Omega.{arith}
 use lib.Dec.{ltb, eqb}
-use lib.ListN.{length, getD, take, drop, length-drop, List·getD-eq-default}
+use lib.ListN.{length, getD, take, drop, length-drop}
 use lib.Seq.{take-suc, getD-drop}
-use borrow.Author.Tests.{eqb-true, not-false, lt-ltb, eq-eqb, ne-eqb, le-ltb}
-use Rattle.law.specs.Sums.{both, pick}
+use borrow.Author.Tests.{eqb-true, lt-ltb, le-ltb, eq-eqb, ne-eqb}
 use Rattle.law.specs.Refusal.{head, within}
-use Rattle.law.specs.Text.{isDigit, numberFrom, numberOf}
-use Rattle.law.specs.Reading.{found, fault, byteAt, keyLength, digitsLength, valueLength, valueOfLength, valueAt, lineAt, behind}
-use Rattle.law.proofs.First.{first-high, first-before}
-use Rattle.law.proofs.Question.{within-low, within-high}
-use Rattle.law.proofs.Tests.{passes, fails, known, both-right, both-true, both-fail, never-both}
+use Rattle.law.specs.Text.{keysOf, isDigit, numberFrom, numberOf}
+use Rattle.law.specs.Reading.{Found, found, fault, byteAt, digitsLength, valueLength, valueOfLength, valueAt, lineAt, behind, onward, linesAt}
+use Rattle.law.proofs.Tests.{both-true, both-fail}
+use Rattle.law.proofs.TextDecimal.{digit-high, number-last, number-most}
+use Rattle.law.proofs.TextLine.{inside, digits-high, digits-are, Start, naught, digit, neither, start, value-inside, Line, line-sound}
+use Rattle.law.proofs.TextLines.{came, fell, outcome, lines-on, lines-off, lines-none, Lines, lines-sound}
 
--- inside a list it does not matter what stands past its end
-pub getD-inside : {A : Type 0} (l : List A) (i : ℕ) (a b : A) → i < length l → getD l i a ≡ getD l i b
-getD-inside [] i a b h = absurd (omega arith)
-getD-inside (x ∷ l) zero a b h = refl
-getD-inside (x ∷ l) (suc i) a b h = getD-inside l i a b (omega arith)
-
--- where a byte stands, the text has not ended
-pub byte-inside : (text : List ℕ) (i : ℕ) → byteAt text i < 256 → i < length text
-byte-inside text i h =
-    elim (decLt i (length text)) [
-      | yes l ↦ l
-      | no l ↦ let past : length text ≤ i = omega arith in absurd (omega (arith, List·getD-eq-default text 256 past))
-    ]
-
-pub digit-low : (b : ℕ) → isDigit b ≡ true → 48 ≤ b
-unfolding isDigit
-digit-low b e = within-low 48 57 b e
-
-pub digit-high : (b : ℕ) → isDigit b ≡ true → b ≤ 57
-unfolding isDigit
-digit-high b e = within-high 48 57 b e
+-- ---- a value, digit by digit
 
 pub digit-inside : (text : List ℕ) (i : ℕ) → isDigit (byteAt text i) ≡ true → i < length text
-digit-inside text i e = byte-inside text i (omega (arith, digit-high (byteAt text i) e))
+digit-inside text i e = inside text i (omega (arith, digit-high (byteAt text i) e))
 
-module _ (text : List ℕ) (at : ℕ) where
-  pub digits-most : digitsLength text at ≤ 4
-  unfolding digitsLength
-  digits-most = first-high (λ i. not (isDigit (byteAt text (at + i)))) 0 4
-
-  digits-are : (i : ℕ) → i < digitsLength text at → isDigit (byteAt text (at + i)) ≡ true
-  unfolding digitsLength
-  digits-are i h = not-false _ (first-before (λ i. not (isDigit (byteAt text (at + i)))) 0 4 i (omega arith) h)
-
-nought-is-digit : isDigit 48 ≡ true
+nought-digit : (b : ℕ) → b ≡ 48 → isDigit b ≡ true
 unfolding isDigit within
-nought-is-digit = refl
+nought-digit b e = rw e
 
--- the length of a value, by the byte that it begins with
 module _ (text : List ℕ) (at : ℕ) where
-  pub value-nought : byteAt text at ≡ 48 → valueLength text at ≡ 1
-  unfolding valueLength
-  value-nought e = rw (eq-eqb (byteAt text at) 48 e)
-
-  pub value-none : isDigit (byteAt text at) ≡ false → eqb (byteAt text at) 48 ≡ false → valueLength text at ≡ 0
-  unfolding valueLength
-  value-none e f = rw (f, e)
-
-  pub value-some : isDigit (byteAt text at) ≡ true → eqb (byteAt text at) 48 ≡ false
-      → valueLength text at ≡ suc (digitsLength text (suc at))
-  unfolding valueLength
-  value-some e f = rw (f, e)
-
-  pub value-most : valueLength text at ≤ 5
-  value-most =
-      elim (known (eqb (byteAt text at) 48)) [
-        | passes z ↦ omega (arith, value-nought (eqb-true _ 48 z))
-        | fails z ↦ elim (known (isDigit (byteAt text at))) [
-          | passes d ↦ omega (arith, value-some d z, digits-most text (suc at))
-          | fails d ↦ omega (arith, value-none d z)
-        ]
-      ]
-
-  -- all its bytes are digits
   digit-here : (i j : ℕ) → i ≡ j → isDigit (byteAt text j) ≡ true → isDigit (byteAt text i) ≡ true
   digit-here i j e d = ap (λ (z : ℕ). isDigit (byteAt text z)) e ∙ d
 
+  pub value-most : valueLength text at ≤ 5
+  value-most =
+      elim (start text at) [
+        | naught e n ↦ omega arith
+        | digit e f n ↦ omega (arith, digits-high text (suc at))
+        | neither e f n ↦ omega arith
+      ]
+
+  -- all the bytes of a value are digits
   pub value-digit : (i : ℕ) → i < valueLength text at → isDigit (byteAt text (at + i)) ≡ true
   value-digit zero h =
-      elim (known (isDigit (byteAt text at))) [
-        | passes d ↦ digit-here (at + 0) at (omega arith) d
-        | fails d ↦ elim (known (eqb (byteAt text at) 48)) [
-          | passes z ↦ absurd (never-both _ (nought-digit (eqb-true _ 48 z)) d)
-          | fails z ↦ absurd (omega (arith, value-none d z))
-        ]
+      elim (start text at) [
+        | naught e n ↦ digit-here (at + 0) at (add-zero at) (nought-digit _ (eqb-true _ 48 e))
+        | digit e f n ↦ digit-here (at + 0) at (add-zero at) f
+        | neither e f n ↦ absurd (omega arith)
       ]
-    where
-      nought-digit : byteAt text at ≡ 48 → isDigit (byteAt text at) ≡ true
-      nought-digit e = ap isDigit e ∙ nought-is-digit
   value-digit (suc i) h =
-      elim (known (eqb (byteAt text at) 48)) [
-        | passes z ↦ absurd (omega (arith, value-nought (eqb-true _ 48 z)))
-        | fails z ↦ elim (known (isDigit (byteAt text at))) [
-          | passes d ↦ digit-here (at + suc i) (suc at + i) (omega arith) (digits-are text (suc at) i (omega (arith, value-some d z)))
-          | fails d ↦ absurd (omega (arith, value-none d z))
-        ]
+      elim (start text at) [
+        | naught e n ↦ absurd (omega arith)
+        | digit e f n ↦ digit-here (at + suc i) (suc at + i) (omega arith) (digits-are text (suc at) i (omega arith))
+        | neither e f n ↦ absurd (omega arith)
       ]
 
-  -- a value stands before the end of the text
-  pub value-inside : at ≤ length text → at + valueLength text at ≤ length text
-  value-inside h = by (valueLength text at) refl
+  -- it ends in the text
+  pub value-within : at ≤ length text → at + valueLength text at ≤ length text
+  value-within h = by (valueLength text at) refl
     where
-      by : (n : ℕ) → valueLength text at ≡ n → at + n ≤ length text
+      by : (n : ℕ) → valueLength text at ≡ n → at + valueLength text at ≤ length text
       by zero e = omega arith
-      by (suc n) e = omega (arith, digit-inside text (at + n) (value-digit n (omega arith)))
+      by (suc n) e = value-inside text at (omega arith)
 
--- the number that digits say, with one more behind them
-number-more : (n : ℕ) (digits : List ℕ) (b : ℕ) → numberFrom n (digits ++ (b ∷ [])) ≡ numberFrom n digits * 10 + (b - 48)
-unfolding numberFrom
-number-more n [] b = refl
-number-more n (d ∷ digits) b = number-more (n * 10 + (d - 48)) digits b
-
-module _ (text : List ℕ) (at : ℕ) where
   pub number-next : (i : ℕ) → at + i < length text
       → numberOf (take (suc i) (drop at text)) ≡ numberOf (take i (drop at text)) * 10 + (byteAt text (at + i) - 48)
   number-next i h =
       ap (numberFrom 0) (take-suc (drop at text) i 256 (omega (arith, length-drop at text)))
-      ∙ number-more 0 (take i (drop at text)) (getD (drop at text) i 256)
+      ∙ number-last 0 (take i (drop at text)) (getD (drop at text) i 256)
       ∙ ap (λ (z : ℕ). numberOf (take i (drop at text)) * 10 + (z - 48)) (getD-drop at text i 256)
 
-  number-none : numberOf (take 0 (drop at text)) ≡ 0
-  unfolding numberFrom
-  number-none = refl
-
   number-powers : (i : ℕ) → i ≤ valueLength text at → numberOf (take i (drop at text)) < 10 ^ i
-  number-powers zero h = omega (arith, number-none)
+  unfolding numberFrom
+  number-powers zero h = omega arith
   number-powers (suc i) h =
-      let d = value-digit text at i (omega arith) in
+      let d = value-digit i (omega arith) in
       omega (arith, number-powers i (omega arith), number-next i (digit-inside text (at + i) d), digit-high (byteAt text (at + i)) d)
 
-  -- a value of at most five digits is below 100000
+  -- the number of its digits so far, five at most, is below 100000
   pub number-small : (i : ℕ) → i ≤ valueLength text at → numberOf (take i (drop at text)) ≤ 99999
   number-small i h =
-      let five : i ≤ 5 = omega (arith, value-most text at) in
+      let five : i ≤ 5 = omega (arith, value-most) in
       omega (arith, number-powers i h, pow-le-pow-right {n = 10} (omega arith) five)
-
--- a test between what is found and a fault
-picked : (b : Bool) (vs ws : List ℕ) (next last j : ℕ) → pick b (found vs next) (fault j) ≡ found ws last
-    → (b ≡ true) × (vs ≡ ws) × (next ≡ last)
-picked true vs ws next last j e = (refl, (cc), cc)
-picked false vs ws next last j e = absurd (let z : _≡_ {A = ℕ} 0 1 = cc in omega arith)
-
--- what a line that is read says: it ends in the text, and its value has five digits at most
-pub record LineRead (text : List ℕ) (values : List ℕ) (next : ℕ) : Type 0 where
-  pub inside : next ≤ length text
-  pub small : head values ≤ 99999
-
-pub value-read : (text : List ℕ) (at : ℕ) {values : List ℕ} {next : ℕ} → valueAt text at ≡ found values next → LineRead text values next
-unfolding valueAt valueOfLength
-value-read text at e =
-    let n = valueLength text at in
-    let p = picked (both (ltb 0 n) (eqb (byteAt text (at + n)) 10)) _ _ _ _ _ e in
-    let lf = eqb-true (byteAt text (at + n)) 10 (both-right (ltb 0 n) _ (p .0)) in
-    record {
-      inside = omega (arith, byte-inside text (at + n) (omega arith), p .2);
-      small = omega (arith, number-small text at n (omega arith), ap head (p .1));
-    }
-
-pub line-read : (text : List ℕ) (at : ℕ) (key : List ℕ) {values : List ℕ} {next : ℕ} → lineAt text at key ≡ found values next
-    → LineRead text values next
-unfolding lineAt
-line-read text at key e =
-    by (eqb (keyLength text at key) (length key)) e
-  where
-    by : (b : Bool) {values : List ℕ} {next : ℕ}
-        → pick b (valueAt text (at + length key)) (fault (at + keyLength text at key)) ≡ found values next → LineRead text values next
-    by true e = value-read text (at + length key) e
-    by false e = absurd (let z : _≡_ {A = ℕ} 0 1 = cc in omega arith)
 
 -- a value by its ways out, n being its length
 module _ (text : List ℕ) (at n : ℕ) (long : n ≡ valueLength text at) where
@@ -187,16 +91,90 @@ module _ (text : List ℕ) (at n : ℕ) (long : n ≡ valueLength text at) where
   unfolding valueAt valueOfLength
   value-unended h = rw (← long, both-fail (ltb 0 n) _ (ne-eqb (byteAt text (at + n)) 10 h))
 
-  pub value-is : (n ≡ 0 → ⊥) → byteAt text (at + n) ≡ 10 → valueAt text at ≡ found (numberOf (take n (drop at text)) ∷ []) (suc (at + n))
+  pub value-ended : (n ≡ 0 → ⊥) → byteAt text (at + n) ≡ 10
+      → valueAt text at ≡ found (numberOf (take n (drop at text)) ∷ []) (suc (at + n))
   unfolding valueAt valueOfLength
-  value-is some h = rw (← long, both-true (ltb 0 n) _ (lt-ltb 0 n (omega arith)) (eq-eqb (byteAt text (at + n)) 10 h))
+  value-ended some h = rw (← long, both-true (ltb 0 n) _ (lt-ltb 0 n (omega arith)) (eq-eqb (byteAt text (at + n)) 10 h))
 
--- a line by its ways out, n being the bytes of its key
-module _ (text : List ℕ) (at : ℕ) (key : List ℕ) (n : ℕ) (many : n ≡ keyLength text at key) where
-  pub line-other : (n ≡ length key → ⊥) → lineAt text at key ≡ fault (at + n)
-  unfolding lineAt
-  line-other h = rw (← many, ne-eqb n (length key) h)
+-- ---- lines behind lines
 
-  pub line-keyed : n ≡ length key → lineAt text at key ≡ valueAt text (at + n)
-  unfolding lineAt
-  line-keyed e = rw (← many, eq-eqb n (length key) e, e)
+behind-behind : (a b : List ℕ) (f : Found) → behind a (behind b f) ≡ behind (a ++ b) f
+behind-behind a b (found values next) = ap (λ (l : List ℕ). found l next) (sym (append-assoc a b values))
+behind-behind a b (fault j) = refl
+
+behind-none : (f : Found) → behind [] f ≡ f
+behind-none (found values next) = refl
+behind-none (fault j) = refl
+
+-- the lines of some keys, and behind them those of others
+module _ (text : List ℕ) (others : List (List ℕ)) where
+  abbrev then-others : List ℕ → ℕ → Found
+  then-others values next = behind values (linesAt text next others)
+
+  behind-onward : (before : List ℕ) (f : Found) → behind before (onward f then-others) ≡ onward (behind before f) then-others
+  behind-onward before (found values next) = behind-behind before values (linesAt text next others)
+  behind-onward before (fault j) = refl
+
+  lines-append : (at : ℕ) (keys : List (List ℕ)) → linesAt text at (keys ++ others) ≡ onward (linesAt text at keys) then-others
+  lines-append at [] =
+      sym (behind-none (linesAt text at others)) ∙ ap (λ (f : Found). onward f then-others) (sym (lines-none text at))
+  lines-append at (key ∷ keys) =
+      elim (outcome (lineAt text at key)) [
+        | came values next e ↦ lines-on text at key (keys ++ others) values next e
+            ∙ ap (behind values) (lines-append next keys)
+            ∙ behind-onward values (linesAt text next keys)
+            ∙ ap (λ (f : Found). onward f then-others) (sym (lines-on text at key keys values next e))
+        | fell j e ↦ lines-off text at key (keys ++ others) j e
+            ∙ ap (λ (f : Found). onward f then-others) (sym (lines-off text at key keys j e))
+      ]
+
+-- what a loop over keys has read: these values, and the lines of the keys that are left come behind them
+pub record ReadSo (text : List ℕ) (from : ℕ) (keys : List (List ℕ)) (values : List ℕ) (left : List (List ℕ)) (at : ℕ) : Type 0 where
+  pub so-far : linesAt text from keys ≡ behind values (linesAt text at left)
+  pub inside : at ≤ length text
+
+pub so-start : {text : List ℕ} {from : ℕ} {keys : List (List ℕ)} → from ≤ length text → ReadSo text from keys [] keys from
+so-start {text} {from} {keys} h = record { so-far = sym (behind-none (linesAt text from keys)); inside = h }
+
+module _ {text : List ℕ} {from : ℕ} {keys : List (List ℕ)} {values : List ℕ} {at : ℕ} where
+  -- some more keys, as far as others are left
+  module _ (some left : List (List ℕ)) (s : ReadSo text from keys values (some ++ left) at) where
+    pub so-more : {more : List ℕ} {next : ℕ} → linesAt text at some ≡ found more next → ReadSo text from keys (values ++ more) left next
+    so-more {more} {next} e =
+        record {
+          so-far = s .so-far
+              ∙ ap (behind values) (lines-append text left at some ∙ ap (λ (f : Found). onward f (then-others text left)) e)
+              ∙ behind-behind values more (linesAt text next left);
+          inside = lines-sound text at some more next (s .inside) e .fits;
+        }
+
+    pub so-broken : {j : ℕ} → linesAt text at some ≡ fault j → linesAt text from keys ≡ fault j
+    so-broken {j} e =
+        s .so-far ∙ ap (behind values) (lines-append text left at some ∙ ap (λ (f : Found). onward f (then-others text left)) e)
+
+  -- one more key
+  module _ {key : List ℕ} {left : List (List ℕ)} (s : ReadSo text from keys values (key ∷ left) at) where
+    pub so-next : {v next : ℕ} → lineAt text at key ≡ found (v ∷ []) next → ReadSo text from keys (values ++ (v ∷ [])) left next
+    so-next {v} {next} e =
+        record {
+          so-far = s .so-far ∙ ap (behind values) (lines-on text at key left (v ∷ []) next e)
+              ∙ behind-behind values (v ∷ []) (linesAt text next left);
+          inside = line-sound text at key (v ∷ []) next e .fits;
+        }
+
+    pub so-fault : {j : ℕ} → lineAt text at key ≡ fault j → linesAt text from keys ≡ fault j
+    so-fault {j} e = s .so-far ∙ ap (behind values) (lines-off text at key left j e)
+
+  pub so-all : ReadSo text from keys values [] at → linesAt text from keys ≡ found values at
+  so-all s = s .so-far ∙ ap (behind values) (lines-none text at) ∙ ap (λ (l : List ℕ). found l at) (append-nil values)
+
+-- a line that is read has a value of five digits at most
+pub line-small : (text : List ℕ) (at : ℕ) (key : List ℕ) {v next : ℕ} → lineAt text at key ≡ found (v ∷ []) next → v ≤ 99999
+line-small text at key {v} {next} e =
+    let l = line-sound text at key (v ∷ []) next e in
+    omega (arith, number-most (l .digits) (l .good), ap head (l .word))
+
+-- the keys of one row more
+pub keys-more : (keys : List (List ℕ)) (n i : ℕ) → i < n → keysOf keys (n - i) ≡ keys ++ keysOf keys (n - suc i)
+unfolding keysOf
+keys-more keys n i h = let e : n - i ≡ suc (n - suc i) = omega arith in rw e

@@ -3,7 +3,7 @@ use mathlib.Core.Path.{sym}
 use native.Mathlib.Omega.{arith}
 use lib.ListN.{List·getD-eq-default}
 use borrow.Author.Needs.{needs}
-use Rattle.law.proofs.TextSteps.{getD-inside}
+use Rattle.law.proofs.Lists.{getD-inside}
 use Rattle.text.proofs.line.byte_at.Statement.{statement}
 use Rattle.text.proofs.line.byte_at.Tie as tie
 

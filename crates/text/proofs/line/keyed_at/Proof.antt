@@ -10,7 +10,7 @@ use borrow.Author.Needs.{needs}
 use borrow.Author.Tests.{eq-eqb, ne-eqb}
 use Rattle.law.specs.Reading.{byteAt, keyLength}
 use Rattle.law.proofs.First.{Searched, searched-start, searched-hit, searched-next, searched-end}
-use Rattle.law.proofs.TextSteps.{byte-inside}
+use Rattle.law.proofs.TextLine.{inside}
 use Rattle.text.proofs.line.keyed_at.Statement.{statement}
 use Rattle.text.proofs.line.keyed_at.Tie as tie
 
@@ -58,8 +58,8 @@ loop-again c =
     let l = b .before .before .loop in
     let e = sym (b .byte-at .ensures) ∙ c .if1 .left in
     let a = b .before .before .before .before .before .args in
-    let inside = byte-inside (a .text .now) (a .at + l .i) (omega (arith, e, c .before .shared-slice-known3 .given (l .i))) in
-    (searched-next (l .inv .0) (b .before .loop-test .taken) (ap not (eq-eqb _ _ e)), omega (arith, inside))
+    let there = inside (a .text .now) (a .at + l .i) (omega (arith, e, c .before .shared-slice-known3 .given (l .i))) in
+    (searched-next (l .inv .0) (b .before .loop-test .taken) (ap not (eq-eqb _ _ e)), omega (arith, there))
 
 returns-2 : tie.Need-returns-2 Inv-loop μ-loop
 unfolding keyLength

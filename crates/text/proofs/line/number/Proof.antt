@@ -8,7 +8,8 @@ use lib.ListN.{length, take, drop}
 use borrow.Author.Needs.{needs}
 use Rattle.law.specs.Text.{numberFrom, numberOf}
 use Rattle.law.specs.Reading.{byteAt, valueLength}
-use Rattle.law.proofs.TextSteps.{digit-low, digit-high, digit-inside, value-digit, value-most, number-next, number-small}
+use Rattle.law.proofs.TextDecimal.{digit-low, digit-high}
+use Rattle.law.proofs.TextSteps.{digit-inside, value-digit, value-most, number-next, number-small}
 use Rattle.text.proofs.line.number.Statement.{statement}
 use Rattle.text.proofs.line.number.Tie as tie
 

@@ -8,7 +8,8 @@ use lib.ListN.{take, drop}
 use borrow.Author.Needs.{needs}
 use Rattle.law.specs.Text.{numberOf}
 use Rattle.law.specs.Reading.{found}
-use Rattle.law.proofs.TextSteps.{value-inside, byte-inside, value-empty, value-unended, value-is}
+use Rattle.law.proofs.TextLine.{inside}
+use Rattle.law.proofs.TextSteps.{value-within, value-empty, value-unended, value-ended}
 use Rattle.text.proofs.line.value_at.Statement.{statement}
 use Rattle.text.proofs.line.value_at.Tie as tie
 
@@ -18,7 +19,7 @@ value-length-requires c κs = search needs
 add-end : tie.Need-add-end
 add-end c =
     let s = c .before .before in
-    omega (arith, c .value-length .ensures, value-inside (s .args .text .now) (s .args .at) (s .pre))
+    omega (arith, c .value-length .ensures, value-within (s .args .text .now) (s .args .at) (s .pre))
 
 returns : tie.Need-returns
 returns c = sym (value-empty _ _ _ (c .before .value-length .ensures) (c .if1 .taken))
@@ -39,14 +40,14 @@ add-t7 c =
     let b = c .before .before in
     let n = b .before .before .value-length .result in
     let a = b .before .before .before .before .args in
-    omega (arith, byte-inside (a .text .now) (a .at + n) (omega (arith, b .byte-at .ensures, c .before .if2 .left)))
+    omega (arith, inside (a .text .now) (a .at + n) (omega (arith, b .byte-at .ensures, c .before .if2 .left)))
 
 returns-3 : tie.Need-returns-3
 returns-3 c =
     let b = c .before .before in
     let v = b .before .before .value-length in
     let a = b .before .before .before .before .args in
-    let e = value-is (a .text .now) (a .at) (v .result) (v .ensures) (b .before .if1 .left) (sym (b .byte-at .ensures) ∙ c .before .if2 .left) in
+    let e = value-ended (a .text .now) (a .at) (v .result) (v .ensures) (b .before .if1 .left) (sym (b .byte-at .ensures) ∙ c .before .if2 .left) in
     ap (λ (z : ℕ). found (z ∷ []) (a .at + v .result + 1)) (c .number .ensures)
     ∙ ap (λ (z : ℕ). found (numberOf (take (v .result) (drop (a .at) (a .text .now))) ∷ []) z) (add-one (a .at + v .result)) ∙ sym e
 

@@ -6,10 +6,11 @@ use native.Mathlib.Numerals.{add-one}
 use native.Mathlib.Omega.{arith}
 use lib.Dec.{eqb}
 use borrow.Author.Needs.{needs}
-use borrow.Author.Tests.{ne-eqb, not-true, not-false}
+use borrow.Author.Tests.{eq-eqb, ne-eqb, not-true, not-false}
 use Rattle.law.specs.Text.{isDigit}
-use Rattle.law.specs.Reading.{byteAt, digitsLength}
-use Rattle.law.proofs.TextSteps.{digit-inside, digits-most, value-nought, value-none, value-some}
+use Rattle.law.specs.Reading.{byteAt, digitsLength, valueLength}
+use Rattle.law.proofs.TextLine.{digits-high}
+use Rattle.law.proofs.TextSteps.{digit-inside}
 use Rattle.text.proofs.line.value_length.Statement.{statement}
 use Rattle.text.proofs.line.value_length.Tie as tie
 
@@ -30,13 +31,15 @@ byte-at-requires : tie.Need-byte-at-requires
 byte-at-requires c κs = search needs
 
 returns : tie.Need-returns
-returns c = sym (value-nought _ _ (sym (c .before .byte-at .ensures) ∙ c .if1 .taken))
+unfolding valueLength
+returns c = rw (eq-eqb _ 48 (sym (c .before .byte-at .ensures) ∙ c .if1 .taken))
 
 is-digit-requires : tie.Need-is-digit-requires
 is-digit-requires c κs = search needs
 
 returns-2 : tie.Need-returns-2
-returns-2 c = sym (value-none _ _ (sym (told (c .before)) ∙ not-true _ (c .if2 .taken)) (not-nought (c .before .before)))
+unfolding valueLength
+returns-2 c = rw (not-nought (c .before .before), sym (told (c .before)) ∙ not-true _ (c .if2 .taken))
 
 add-digits-at : tie.Need-add-digits-at
 add-digits-at c = search needs
@@ -49,13 +52,14 @@ digits-at-requires c κs =
 add-result : tie.Need-add-result
 add-result c =
     let a = start (c .before .before .before .before) .args in
-    omega (arith, c .digits-at .ensures, digits-most (a .text .now) (a .at + 1))
+    omega (arith, c .digits-at .ensures, digits-high (a .text .now) (a .at + 1))
 
 returns-3 : tie.Need-returns-3
+unfolding valueLength
 returns-3 c =
     let a = start (c .before .before .before .before) .args in
     let next = ap (digitsLength (a .text .now)) (add-one (a .at)) in
-    omega (arith, c .digits-at .ensures, next, value-some (a .text .now) (a .at) (some (c .before)) (not-nought (c .before .before .before)))
+    rw (not-nought (c .before .before .before), some (c .before)) (omega (arith, c .digits-at .ensures, next))
 
 pub value-length-spec : {M : Type 1} → statement M
 value-length-spec =

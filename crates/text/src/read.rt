@@ -1,0 +1,58 @@
+// Task text read whole: rows of six lines, their table, and the words laid into a lent room. Each caller of the reader takes its
+// answer apart and stops at a fault.
+ghost use mathlib.Core.Path.{_≡_};
+ghost use Prim.Native.Nat.{_≤_, _<_, _*_};
+ghost use lib.ListN.{length, take, drop};
+ghost use Rattle.law.specs.Text.{rowKeys, keysOf};
+ghost use Rattle.law.specs.Reading.{linesAt, rowsAt, readAnswer, readRoom};
+ghost use Rattle.text.specs.Said.{placeOf, told, shown};
+use crate::line::Value;
+use crate::line::line_at;
+use crate::reader::value_from;
+use refusal::Refusal;
+use table::Checked;
+use table::WIDTH;
+use table::check;
+
+// Where a run of lines ends: the place after them; or the place of a fault.
+pub enum Rest {
+    Next(usize),
+    Broken(usize),
+}
+
+// A text that is read: the number of its rows; or why it is none.
+pub enum Reading {
+    Rows(usize),
+    Refused(Refusal),
+}
+
+// The place that the reader's answer names.
+fn place(answer: Value) -> usize
+    ensures { λ r. ⌜ r ≡ placeOf answer ⌝ }
+{
+    match answer {
+        Value::Is(_, next) => next,
+        Value::Fault(j) => j,
+    }
+}
+
+// The six lines of a row, from a place on, as words of that row.
+fn row_at(text: &[u8], from: usize, words: &mut [u32; 192], row: usize) -> Rest
+    requires { ⌜ (from ≤ length (now text)) × (length (now words) ≡ 192) × (row < 32) ⌝ }
+    ensures read { λ r. ⌜ told r (take 6 (drop (row * 6) (now (words .exit)))) ≡ linesAt (now (text .entry)) from rowKeys ⌝ }
+    ensures kept { λ r. ⌜ take (row * 6) (now (words .exit)) ≡ take (row * 6) (now (words .entry)) ⌝ }
+    ensures length { λ r. ⌜ length (now (words .exit)) ≡ 192 ⌝ }
+{
+    let mut at = from;
+    let mut j = 0;
+    while j < WIDTH {
+        let answer = value_from(text, at, j);
+        let Value::Is(v, next) = answer else {
+            return Rest::Broken(place(answer));
+        };
+        words[row * WIDTH + j] = v as u32;
+        at = next;
+        j += 1;
+    }
+    Rest::Next(at)
+}
