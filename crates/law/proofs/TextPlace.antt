@@ -158,9 +158,9 @@ module _ (keys : List (List ℕ)) (text : List ℕ) (j : ℕ) where
           | fell i g ↦ in-rows count mid f (g ∙ sym (read-on keys text count mid f ∙ rows-cut keys text mid _ i g) ∙ e)
           | came ws last g ↦ elim (ℕ-discrete last (length text)) [
             | no h ↦
-              let all = read-on keys text count mid f ∙ rows-more keys text mid _ last ws g h in
-              let same : last ≡ j = omega (arith, ap reached (sym all ∙ e)) in
-              past-rows count mid ws f (g ∙ ap (found ws) same) (λ q. h (same ∙ q))
+                let all = read-on keys text count mid f ∙ rows-more keys text mid _ last ws g h in
+                let same : last ≡ j = omega (arith, ap reached (sym all ∙ e)) in
+                past-rows count mid ws f (g ∙ ap (found ws) same) (λ q. h (same ∙ q))
             | yes h ↦ absurd (came-fell (read-on keys text count mid f ∙ rows-end keys text mid _ last ws g h) e)
           ]
         ]
@@ -170,33 +170,33 @@ module _ (keys : List (List ℕ)) (text : List ℕ) (j : ℕ) where
   text-stuck bytes f =
       elim f [
         | at-first e ↦
-          let s = line-stuck text 0 rowsKey rows-key (omega arith) j e in
-          let n = numberOf (s .digits) in
-          let others = zeros (keysOf keys n) in
-          record {
-            high = s .high;
-            rest = s .rest ++ lines (keysOf keys n) others;
-            form = form-of n (s .digits) others refl (s .good) (zeros-good (keysOf keys n)) (zeros-many (keysOf keys n))
-                (whole-behind s (lines (keysOf keys n) others));
-          }
+            let s = line-stuck text 0 rowsKey rows-key (omega arith) j e in
+            let n = numberOf (s .digits) in
+            let others = zeros (keysOf keys n) in
+            record {
+              high = s .high;
+              rest = s .rest ++ lines (keysOf keys n) others;
+              form = form-of n (s .digits) others refl (s .good) (zeros-good (keysOf keys n)) (zeros-many (keysOf keys n))
+                  (whole-behind s (lines (keysOf keys n) others));
+            }
         | in-rows count mid e g ↦
-          let first = line-sound text 0 rowsKey count mid e in
-          let s = lines-stuck text mid _ j (keys-bytes keys (head count) bytes) (first .fits) g in
-          record {
-            high = s .high;
-            rest = s .rest;
-            form = form-of (head count) (first .digits) (s .digits) (sym (ap head (first .word))) (first .good) (s .good) (s .many)
-                (s .whole ∙ line-before first (lines (keysOf keys (head count)) (s .digits)));
-          }
+            let first = line-sound text 0 rowsKey count mid e in
+            let s = lines-stuck text mid _ j (keys-bytes keys (head count) bytes) (first .fits) g in
+            record {
+              high = s .high;
+              rest = s .rest;
+              form = form-of (head count) (first .digits) (s .digits) (sym (ap head (first .word))) (first .good) (s .good) (s .many)
+                  (s .whole ∙ line-before first (lines (keysOf keys (head count)) (s .digits)));
+            }
         | past-rows count mid words e g h ↦
-          let first = line-sound text 0 rowsKey count mid e in
-          let l = lines-sound text mid _ words j (first .fits) g in
-          record {
-            high = l .fits;
-            rest = [];
-            form = form-of (head count) (first .digits) (l .digits) (sym (ap head (first .word))) (first .good) (l .good) (l .many)
-                (append-nil (take j text) ∙ lines-front l ∙ line-before first (lines (keysOf keys (head count)) (l .digits)));
-          }
+            let first = line-sound text 0 rowsKey count mid e in
+            let l = lines-sound text mid _ words j (first .fits) g in
+            record {
+              high = l .fits;
+              rest = [];
+              form = form-of (head count) (first .digits) (l .digits) (sym (ap head (first .word))) (first .good) (l .good) (l .many)
+                  (append-nil (take j text) ∙ lines-front l ∙ line-before first (lines (keysOf keys (head count)) (l .digits)));
+            }
       ]
 
   -- a text with the same beginning has the same fault
@@ -206,17 +206,17 @@ module _ (keys : List (List ℕ)) (text : List ℕ) (j : ℕ) where
       elim f [
         | at-first e ↦ read-cut keys other j (line-local text 0 rowsKey other (suc j) same (omega (arith, ap reached e)) ∙ e)
         | in-rows count mid e g ↦
-          let past = lines-low text mid (keysOf keys (head count)) in
-          let first = line-local text 0 rowsKey other (suc j) same (omega (arith, ap reached e, ap reached g)) in
-          let others = lines-local text other (suc j) same mid (keysOf keys (head count)) (omega (arith, ap reached g)) in
-          read-on keys other count mid (first ∙ e) ∙ rows-cut keys other mid _ j (others ∙ g)
+            let past = lines-low text mid (keysOf keys (head count)) in
+            let first = line-local text 0 rowsKey other (suc j) same (omega (arith, ap reached e, ap reached g)) in
+            let others = lines-local text other (suc j) same mid (keysOf keys (head count)) (omega (arith, ap reached g)) in
+            read-on keys other count mid (first ∙ e) ∙ rows-cut keys other mid _ j (others ∙ g)
         | past-rows count mid words e g q ↦
-          let past = lines-low text mid (keysOf keys (head count)) in
-          let first = line-local text 0 rowsKey other (suc j) same (omega (arith, ap reached e, ap reached g)) in
-          let others = lines-local text other (suc j) same mid (keysOf keys (head count)) (omega (arith, ap reached g)) in
-          read-on keys other count mid (first ∙ e)
-          ∙ rows-more keys other mid _ j words (others ∙ g)
-              (λ ends. omega (arith, length-take (suc j) other, length-take (suc j) text, ap length same))
+            let past = lines-low text mid (keysOf keys (head count)) in
+            let first = line-local text 0 rowsKey other (suc j) same (omega (arith, ap reached e, ap reached g)) in
+            let others = lines-local text other (suc j) same mid (keysOf keys (head count)) (omega (arith, ap reached g)) in
+            read-on keys other count mid (first ∙ e)
+            ∙ rows-more keys other mid _ j words (others ∙ g)
+            (λ ends. omega (arith, length-take (suc j) other, length-take (suc j) text, ap length same))
       ]
 
 -- what begins a beginning begins the same text
@@ -262,9 +262,11 @@ module _ (keys : List (List ℕ)) (bytes : every isKey keys ≡ true) (text : Li
       record {
         before = λ i h. begins-shorter text (s .rest) (suc i) j h (s .form);
         here = elim (decLt j (length text)) [
-          | yes h ↦ inl
-            (h, λ b. came-fell (text-whole (b .text))
-                (text-local keys text j _ way h (take-at (take (suc j) text) (b .rest) (suc j) (length-take-le (suc j) text h))))
+          | yes h ↦ inl (
+            h,
+            λ b. came-fell (text-whole (b .text))
+                (text-local keys text j _ way h (take-at (take (suc j) text) (b .rest) (suc j) (length-take-le (suc j) text h))),
+          )
           | no h ↦ inr (omega (arith, s .high), λ t. came-fell (text-whole t) e)
         ];
       }

@@ -1,21 +1,21 @@
 -- Reading a task text as a loop does it: the digits of a value one after the other, the ways out of a line, and the lines read so far before those to come.
-use mathlib.Core.Bool.{Bool, true, false}
+use mathlib.Core.Bool.{true}
 use mathlib.Core.List.{List, [], _∷_, _++_, append-assoc, append-nil}
 use mathlib.Core.Path.{_≡_, refl, sym, ap, _∙_}
 use Prim.Native.Nat.{ℕ, zero, suc, _+_, _-_, _*_, _^_, _≤_, _<_}
 use native.Mathlib.Nat.{add-zero, pow-le-pow-right}
 use native.Mathlib.Omega.{arith}
-use lib.Dec.{ltb, eqb}
+use lib.Dec.{ltb}
 use lib.ListN.{length, getD, take, drop, length-drop}
 use lib.Seq.{take-suc, getD-drop}
 use borrow.Author.Tests.{eqb-true, lt-ltb, le-ltb, eq-eqb, ne-eqb}
 use Rattle.law.specs.Refusal.{head, within}
 use Rattle.law.specs.Text.{keysOf, isDigit, numberFrom, numberOf}
-use Rattle.law.specs.Reading.{Found, found, fault, byteAt, digitsLength, valueLength, valueOfLength, valueAt, lineAt, behind, onward, linesAt}
+use Rattle.law.specs.Reading.{Found, found, fault, byteAt, valueLength, valueOfLength, valueAt, lineAt, behind, onward, linesAt}
 use Rattle.law.proofs.Tests.{both-true, both-fail}
 use Rattle.law.proofs.TextDecimal.{digit-high, number-last, number-most}
-use Rattle.law.proofs.TextLine.{inside, digits-high, digits-are, Start, naught, digit, neither, start, value-inside, Line, line-sound}
-use Rattle.law.proofs.TextLines.{came, fell, outcome, lines-on, lines-off, lines-none, Lines, lines-sound}
+use Rattle.law.proofs.TextLine.{inside, digits-high, digits-are, naught, digit, neither, start, value-inside, line-sound}
+use Rattle.law.proofs.TextLines.{came, fell, outcome, lines-on, lines-off, lines-none, lines-sound}
 
 -- ---- a value, digit by digit
 

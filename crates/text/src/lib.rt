@@ -1,4 +1,4 @@
 // Task text: the reader, from a line to the whole text.
 pub mod line;
-pub mod reader;
 pub mod read;
+pub mod reader;

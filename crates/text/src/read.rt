@@ -56,3 +56,38 @@ fn row_at(text: &[u8], from: usize, words: &mut [u32; 192], row: usize) -> Rest
     }
     Rest::Next(at)
 }
+
+// The lines of so many rows, from a place on, as words from the start.
+fn rows_at(text: &[u8], from: usize, words: &mut [u32; 192], rows: usize) -> Rest
+    requires { ⌜ (from ≤ length (now text)) × (length (now words) ≡ 192) × (rows ≤ 32) ⌝ }
+    ensures read { λ r. ⌜ told r (take (rows * 6) (now (words .exit))) ≡ linesAt (now (text .entry)) from (keysOf rowKeys rows) ⌝ }
+    ensures length { λ r. ⌜ length (now (words .exit)) ≡ 192 ⌝ }
+{
+    let mut at = from;
+    let mut i = 0;
+    while i < rows {
+        let rest = row_at(text, at, words, i);
+        let Rest::Next(next) = rest else {
+            return rest;
+        };
+        at = next;
+        i += 1;
+    }
+    Rest::Next(at)
+}
+
+// The same, and nothing after them.
+fn rows_to_end(text: &[u8], from: usize, words: &mut [u32; 192], rows: usize) -> Rest
+    requires { ⌜ (from ≤ length (now text)) × (length (now words) ≡ 192) × (rows ≤ 32) ⌝ }
+    ensures read { λ r. ⌜ told r (take (rows * 6) (now (words .exit))) ≡ rowsAt rowKeys (now (text .entry)) from rows ⌝ }
+    ensures length { λ r. ⌜ length (now (words .exit)) ≡ 192 ⌝ }
+{
+    let rest = rows_at(text, from, words, rows);
+    let Rest::Next(end) = rest else {
+        return rest;
+    };
+    if end != text.len() {
+        return Rest::Broken(end);
+    }
+    rest
+}
