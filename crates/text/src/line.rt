@@ -89,7 +89,7 @@ fn number(text: &[u8], at: usize, n: usize) -> u64
 }
 
 // The value at a place, and LF behind it.
-pub fn value_at(text: &[u8], at: usize) -> Value
+fn value_at(text: &[u8], at: usize) -> Value
     requires { ⌜ at ≤ length (now text) ⌝ }
     ensures { λ r. ⌜ said r ≡ valueAt (now (text .entry)) at ⌝ }
 {

@@ -1,60 +1,72 @@
-use mathlib.Core.Bool.{Bool, true, false, not}
-use mathlib.Core.List.{List, [], _∷_, _++_}
-use mathlib.Core.Path.{_≡_, refl, sym, ap, _∙_}
-use Prim.Native.Nat.{ℕ, zero, suc, _+_, _-_, _*_, _/_, _%_, _≤_, _<_}
+-- `read::read` meets its contract: the first line and its value, each way out by its law; the rows by `read_rows`.
+use mathlib.Core.List.{[], _∷_}
+use mathlib.Core.Path.{_≡_, sym, ap, _∙_}
+use Prim.Native.Nat.{ℕ}
 use native.Mathlib.Omega.{arith}
-use lib.Dec.{leb, ltb, eqb}
-use lib.ListN.{length, getD, take, drop, set}
+use lib.ListN.{length}
 use borrow.Author.Needs.{needs}
+use Rattle.law.specs.Refusal.{refused}
+use Rattle.law.specs.Text.{rowsKey}
+use Rattle.law.specs.Reading.{found, lineAt}
+use Rattle.law.proofs.TextAnswers.{read-twelve-first, read-two, read-three, read-kept}
+use Rattle.text.specs.Said.{said, placeOf}
 use Rattle.text.proofs.read.read.Statement.{statement}
 use Rattle.text.proofs.read.read.Tie as tie
-use Rattle.text.proofs.read.read.Reads as reads
-use Rattle.text.proofs.read.read.Lts as lts
-use Rattle.text.proofs.line.line_at.Reads as line-at-reads
-use Rattle.text.proofs.read.place.Reads as place-reads
-use Rattle.text.proofs.read.read_rows.Reads as read-rows-reads
 
--- src/read.rt:125:35
+abbrev start : tie.After-line-at → tie.Start
+start l = l .before .before .before .before
+
+abbrev taken : tie.After-known-told → tie.After-line-at
+taken c = c .before .before .before
+
+-- the first line, taken apart
+line : (c : tie.After-known-told) → lineAt (start (taken c) .args .text .now) 0 rowsKey ≡ found (c .before .answer .given .0 .0 ∷ []) (c .before .answer .given .0 .1 .0)
+line c = sym (taken c .line-at .ensures) ∙ ap said (c .before .answer .given .1)
+
 slice-aggregate-line-at : tie.Need-slice-aggregate-line-at
 slice-aggregate-line-at c = search needs
 
--- src/read.rt:125:9
 line-at-requires : tie.Need-line-at-requires
 line-at-requires c κs = search needs
 
--- src/read.rt:126:19
 enum-known-answer : tie.Need-enum-known-answer
 enum-known-answer c = search needs
 
--- src/read.rt:127:47
 enum-told : tie.Need-enum-told
 enum-told c = search needs
 
--- src/read.rt:127:47
 place-requires : tie.Need-place-requires
 place-requires c κs = search needs
 
--- src/read.rt:127:9
 returns : tie.Need-returns
-returns c = ?
+returns c =
+    let g = c .before .enum-told .given in
+    let l = c .before .before .before in
+    let a = start l .args in
+    let e = read-twelve-first (a .text .now) (length (a .room .now)) (sym (l .line-at .ensures) ∙ ap said (g .1)) in
+    (ap (λ (j : ℕ). refused 12 (j ∷ [])) (c .place .ensures ∙ ap placeOf (g .1)) ∙ sym e, sym (read-kept (a .text .now) (a .room .now) e))
 
--- src/read.rt:130:9
 returns-2 : tie.Need-returns-2
-returns-2 c = ?
+returns-2 c =
+    let a = start (taken (c .before)) .args in
+    let e = read-two (a .text .now) (length (a .room .now)) (line (c .before)) (c .if1 .taken) in
+    (sym e, sym (read-kept (a .text .now) (a .room .now) e))
 
--- src/read.rt:133:9
 returns-3 : tie.Need-returns-3
-returns-3 c = ?
+returns-3 c =
+    let a = start (taken (c .before .before)) .args in
+    let e = read-three (a .text .now) (length (a .room .now)) (line (c .before .before)) (c .if2 .taken) in
+    (sym e, sym (read-kept (a .text .now) (a .room .now) e))
 
--- src/read.rt:135:5
 read-rows-requires : tie.Need-read-rows-requires
-read-rows-requires c κs = ?
+read-rows-requires c κs =
+    let two = c .before in
+    let one = two .before in
+    (line (one .before), omega (arith, one .if1 .left), two .if2 .left)
 
--- src/read.rt:121:1
 same-length : tie.Need-same-length
 same-length c = search needs
 
--- src/read.rt:121:1
 returns-4 : tie.Need-returns-4
 returns-4 c = search needs
 
