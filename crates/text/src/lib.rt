@@ -1,4 +1,4 @@
-// Task text: the reader, from a line to the whole text.
+// Task text: the reader and the writer.
 pub mod line;
 pub mod read;
 pub mod reader;
