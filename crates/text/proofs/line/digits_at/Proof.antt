@@ -27,7 +27,10 @@ abbrev Asked : Type 0
 Asked = tie.After-is-digit Inv-loop μ-loop
 
 -- what was asked is the test at the byte
-told : (c : Asked) → c .is-digit .result ≡ isDigit (byteAt (c .before .before .before .before .before .args .text .now) (c .before .before .before .before .before .args .at + c .before .before .before .loop .n))
+abbrev start : Asked → tie.Start Inv-loop μ-loop
+start c = c .before .before .before .before .before
+
+told : (c : Asked) → c .is-digit .result ≡ isDigit (byteAt (start c .args .text .now) (start c .args .at + c .before .before .before .loop .n))
 told c = c .is-digit .ensures ∙ ap isDigit (c .before .byte-at .ensures)
 
 loop-holds : tie.Need-loop-holds Inv-loop μ-loop

@@ -1,4 +1,4 @@
--- `line::keyed_at` meets its contract: the loop stands at the first byte that is not the key's, or has passed the whole key; and the bytes passed are in the text.
+-- `line::keyed_at` meets its contract: the loop stands at the first byte that is not the key's, or behind the key; the bytes passed are in the text.
 use mathlib.Core.Bool.{Bool, not}
 use mathlib.Core.List.{List}
 use mathlib.Core.Path.{sym, ap, _∙_}

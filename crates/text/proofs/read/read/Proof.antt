@@ -20,7 +20,8 @@ abbrev taken : tie.After-known-told → tie.After-line-at
 taken c = c .before .before .before
 
 -- the first line, taken apart
-line : (c : tie.After-known-told) → lineAt (start (taken c) .args .text .now) 0 rowsKey ≡ found (c .before .answer .given .0 .0 ∷ []) (c .before .answer .given .0 .1 .0)
+line : (c : tie.After-known-told) → lineAt (start (taken c) .args .text .now) 0 rowsKey
+    ≡ found (c .before .answer .given .0 .0 ∷ []) (c .before .answer .given .0 .1 .0)
 line c = sym (taken c .line-at .ensures) ∙ ap said (c .before .answer .given .1)
 
 slice-aggregate-line-at : tie.Need-slice-aggregate-line-at

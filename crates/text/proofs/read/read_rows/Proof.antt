@@ -1,7 +1,7 @@
 -- `read::read_rows` meets its contract: each way out by its law, and only the last one writes.
 use mathlib.Core.List.{List, [], _∷_, _++_}
 use mathlib.Core.Path.{_≡_, refl, sym, ap, _∙_}
-use Prim.Native.Nat.{ℕ, _*_}
+use Prim.Native.Nat.{ℕ, _*_, _≤_, _<_}
 use native.Mathlib.Omega.{arith}
 use lib.ListN.{length, take, drop}
 use lib.Seq.{length-take-le}
@@ -101,7 +101,9 @@ returns-3 c =
     let k = c .before .before .before in
     let r = lines (asked k) in
     let s = start r in
-    let e = read-short (s .args .text .now) (length (s .args .room .now)) (s .pre .0) (s .pre .1) (s .pre .2) (read-all (asked k)) (good (c .before)) (omega (arith, words-long r, c .if1 .taken)) in
+    let short : length (s .args .room .now) < length (words r) = omega (arith, words-long r, c .if1 .taken) in
+    let e =
+    read-short (s .args .text .now) (length (s .args .room .now)) (s .pre .0) (s .pre .1) (s .pre .2) (read-all (asked k)) (good (c .before)) short in
     (sym e, sym (read-kept (s .args .text .now) (s .args .room .now) e))
 
 slice-aggregate-lay : tie.Need-slice-aggregate-lay
@@ -122,7 +124,8 @@ returns-4 c =
     let s = start r in
     let room = s .args .room .now in
     let text = s .args .text .now in
-    let e = read-accepted text (length room) (s .pre .0) (s .pre .1) (s .pre .2) (read-all (asked k)) (good (t .before)) (omega (arith, words-long r, t .if1 .left)) in
+    let fits : length (words r) ≤ length room = omega (arith, words-long r, t .if1 .left) in
+    let e = read-accepted text (length room) (s .pre .0) (s .pre .1) (s .pre .2) (read-all (asked k)) (good (t .before)) fits in
     let many : s .args .rows ≡ length (tableOf (words r)) = omega (arith, table-length (words r), words-long r) in
     let same = words-read text (s .pre .0) (read-all (asked k)) in (
       ap (λ (n : ℕ). accepted (n ∷ [])) many ∙ sym e,
