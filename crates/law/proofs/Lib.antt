@@ -27,3 +27,4 @@ pub mod TextLongest
 pub mod TextTrips
 pub mod TextExamples
 pub mod ReportExamples
+pub mod TextSteps

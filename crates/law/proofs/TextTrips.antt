@@ -21,7 +21,7 @@ use Rattle.law.proofs.TextDecimal.{decimal-number, decimal-value, numbe
 use Rattle.law.proofs.TextLongest.{text-longest, longest, longest-accepted, longest-words}
 
 -- as many keys as the rows have, and as many words
-keys-length : (keys : List (List ℕ)) (n : ℕ) → length (keysOf keys n) ≡ n * length keys
+pub keys-length : (keys : List (List ℕ)) (n : ℕ) → length (keysOf keys n) ≡ n * length keys
 unfolding keysOf
 keys-length keys zero = omega arith
 keys-length keys (suc n) = length-append keys (keysOf keys n) ∙ omega (arith, keys-length keys n, suc-mul n (length keys))
