@@ -16,4 +16,5 @@ pub mod Ticks
 pub mod Units
 pub mod Fresh
 pub mod Examples
+pub mod TextAnswers
 pub mod TextExamples

@@ -143,7 +143,7 @@ module _ (words : List ℕ) (room : List ℕ) where
         (rw (good, e, f), rw (good, e, f))
 
 -- what an answer of the verdict says
-after-accepted : (a next : Answer) (vs : List ℕ) → after a next ≡ accepted vs → (ws : List ℕ) × (a ≡ accepted ws) × (next ≡ accepted vs)
+pub after-accepted : (a next : Answer) (vs : List ℕ) → after a next ≡ accepted vs → (ws : List ℕ) × (a ≡ accepted ws) × (next ≡ accepted vs)
 after-accepted (accepted ws) next vs e = (ws, refl, e)
 after-accepted (refused n also) next vs e = absurd (let z : _≡_ {A = ℕ} 0 1 = cc in omega arith)
 
