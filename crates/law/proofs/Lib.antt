@@ -18,3 +18,4 @@ pub mod Fresh
 pub mod Examples
 pub mod TextAnswers
 pub mod TextExamples
+pub mod TextWrite
