@@ -9,7 +9,7 @@ use lib.ListN.{take-append-drop, length-set, length, getD, set, take, drop, leng
 use lib.Seq.{paste, take-length, length-take-le, take-suc, take-at, drop-append-add, drop-drop, set-at, set-split, append-snoc}
 use Rattle.law.specs.Reading.{decimal}
 use Rattle.law.proofs.TextWrite.{Left, left-start, left-next, left-last, left-fits}
-use Rattle.text.specs.Written.{putAt}
+use Rattle.text.specs.Written.{putAt, lineOf}
 
 module _ (old : List ℕ) (at : ℕ) where
   pub put-put : (a b : List ℕ) → at + length a ≤ length old → putAt (putAt old at a) (at + length a) b ≡ putAt old at (a ++ b)
@@ -51,6 +51,32 @@ module _ (old : List ℕ) (at : ℕ) where
 pub put-front : (old a : List ℕ) → putAt old 0 a ≡ a ++ drop (length a) old
 unfolding putAt
 put-front old a = ap (λ (z : ℕ). a ++ drop z old) (zero-add (length a))
+
+-- a line: its length, and that it is put by its three pieces
+pub line-length : (key : List ℕ) (v : ℕ) → length (lineOf key v) ≡ length key + length (decimal v) + 1
+unfolding lineOf
+line-length key v = length-append key (decimal v ++ (10 ∷ [])) ∙ omega (arith, length-append (decimal v) (10 ∷ []))
+
+module _ (old : List ℕ) (at : ℕ) where
+  -- a piece behind another
+  pub put-then : {out : List ℕ} {next : ℕ} (a b : List ℕ) → at + length a ≤ length old → out ≡ putAt old at a → next ≡ at + length a
+      → putAt out next b ≡ putAt old at (a ++ b)
+  put-then {next = next} a b h e n =
+      ap (λ (z : List ℕ). putAt z next b) e ∙ ap (λ (z : ℕ). putAt (putAt old at a) z b) n ∙ put-put old at a b h
+
+  pub line-put : (key : List ℕ) (v : ℕ) {first second : List ℕ} {value end : ℕ} → at + length (lineOf key v) ≤ length old
+      → first ≡ putAt old at key → value ≡ at + length key → second ≡ putAt first value (decimal v) → end ≡ value + length (decimal v)
+      → set second end 10 ≡ putAt old at (lineOf key v)
+  unfolding lineOf
+  line-put key v {second = second} {end = end} h e i f j =
+      let n = line-length key v in
+      let l = length-append key (decimal v) in
+      let both : second ≡ putAt old at (key ++ decimal v) = f ∙ put-then key (decimal v) (omega (arith, n)) e i in
+      let next : end ≡ at + length (key ++ decimal v) = omega arith in
+      let fits : at + length (key ++ decimal v) ≤ length old = omega arith in
+      let long : length second ≡ length old = ap length both ∙ put-length old at (key ++ decimal v) fits in
+      put-one second end 10 (omega arith) ∙ put-then (key ++ decimal v) (10 ∷ []) fits both next
+      ∙ ap (λ (z : List ℕ). putAt old at z) (append-assoc key (decimal v) (10 ∷ []))
 
 -- A number whose last digits are put, from behind: where the next one goes, and what the run holds.
 pub record Filling (old : List ℕ) (at v end : ℕ) (out : List ℕ) (place rest : ℕ) : Type 0 where
