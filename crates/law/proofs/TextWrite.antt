@@ -1,15 +1,17 @@
 -- Writing a task text: a number's digits from the last to the first, the lines one after the other, and the length of the longest text.
-use mathlib.Core.List.{List, [], _∷_, _++_, append-assoc, append-nil}
+use mathlib.Core.List.{map, List, [], _∷_, _++_, append-assoc, append-nil}
 use mathlib.Core.Path.{_≡_, refl, sym, ap, _∙_}
 use Prim.Native.Nat.{ℕ, zero, suc, _+_, _-_, _*_, _/_, _%_, _^_, _≤_, _<_}
 use native.Mathlib.Decide.{decLt}
-use native.Mathlib.Nat.{suc-mul, mod-eq-of-lt, mod-eq-sub-mod}
+use native.Mathlib.Nat.{suc-mul, mod-eq-of-lt, mod-eq-sub-mod, div-eq-of-eq-mul-left}
 use native.Mathlib.Omega.{arith}
-use lib.ListN.{length, getD, take, drop, length-append, take-append-drop, List·getD-append}
+use lib.ListN.{length-map, List·getD-map, length, getD, take, drop, length-append, take-append-drop, List·getD-append}
 use lib.Seq.{take-suc, take-all, length-take-le, getD-append-add}
 use borrow.Author.Tests.{lt-ltb, le-ltb}
-use Rattle.law.specs.Text.{keysOf, lines}
-use Rattle.law.specs.Reading.{decimalOf, decimal}
+use Rattle.law.specs.Table.{Task, taskOf, taskAt, tableOf, row, width, WellFormed}
+use Rattle.law.specs.Text.{rowsKey, rowKeys, keysOf, lines}
+use Rattle.law.specs.Reading.{decimalOf, decimal, textOf}
+use Rattle.law.proofs.Table.{Accepted, table-length, table-row}
 
 -- a number by its digits: below ten there is one, from ten on the last stands behind those of the tenth
 digits-one : (n v : ℕ) → v < 10 → decimalOf (suc n) v ≡ (48 + v) ∷ []
@@ -148,3 +150,76 @@ keys-at keys (suc n) l h =
         ∙ keys-at keys n r (omega (arith, suc-mul n (length keys)))
         ∙ ap (λ (z : ℕ). getD keys z []) (sym (mod-eq-sub-mod {n = l} {m = length keys} (omega arith)))
     ]
+
+-- the text of words in whole rows: its first line, and a line for each word
+module _ (keys : List (List ℕ)) (words : List ℕ) (n : ℕ) where
+  -- the lines of the first l words
+  pub rowLines : ℕ → List ℕ
+  rowLines l = linesTo (keysOf keys n) (map decimal words) l
+
+  pub rows-none : rowLines 0 ≡ []
+  unfolding rowLines linesTo lines
+  rows-none = refl
+
+  module _ (whole : length words ≡ n * length keys) where
+    pub rows-next : (l : ℕ) → l < length words
+        → rowLines (suc l) ≡ rowLines l ++ (getD keys (l % length keys) [] ++ (decimal (getD words l 0) ++ (10 ∷ [])))
+    unfolding rowLines
+    rows-next l h =
+        lines-next (keysOf keys n) (map decimal words) l (decimal 0) (omega (arith, keys-length keys n)) (omega (arith, length-map words decimal))
+        ∙ rw (keys-at keys n l (omega arith), List·getD-map decimal words l 0)
+
+    pub rows-most : (l : ℕ) → l ≤ length words → length (rowLines l) ≤ length (rowLines (length words))
+    unfolding rowLines
+    rows-most l h =
+        let k = keys-length keys n in
+        let v = length-map words decimal in
+        omega (arith, ap length (lines-all (keysOf keys n) (map decimal words) (length words) (omega arith) (omega arith)), lines-most (keysOf keys n) (map decimal words) l (omega arith) (omega arith))
+
+    pub text-rows : 0 < length keys → textOf keys words ≡ (rowsKey ++ (decimal n ++ (10 ∷ []))) ++ rowLines (length words)
+    unfolding textOf lines rowLines
+    text-rows some =
+        let k = keys-length keys n in
+        let v = length-map words decimal in
+        let many : length words / length keys ≡ n = div-eq-of-eq-mul-left some whole in
+        rw (many, lines-all (keysOf keys n) (map decimal words) (length words) (omega arith) (omega arith))
+        (ap (λ (z : List ℕ). rowsKey ++ z) (sym (append-assoc (decimal n) (10 ∷ []) (lines (keysOf keys n) (map decimal words)))))
+
+-- "The longest accepted text is 1,384 bytes": 8 for the first line, 43 for a row
+module _ (words : List ℕ) (n : ℕ) (whole : length words ≡ n * width) where
+  -- one line more, of a value with so many digits
+  line-most : (i j k l : ℕ) → i < n → j < width → l ≡ i * width + j → getD words (i * width + j) 0 < 10 ^ suc k
+      → length (rowLines rowKeys words n (suc l)) ≤ length (rowLines rowKeys words n l) + (length (getD rowKeys j []) + suc (suc k))
+  line-most i j k l h m e small =
+      let v = getD words l 0 in
+      let key : getD rowKeys (l % width) [] ≡ getD rowKeys j [] = let r : l % width ≡ j = omega arith in ap (λ (z : ℕ). getD rowKeys z []) r in
+      let few : length (decimal v) ≤ suc k = decimal-few k v (rw e small) in
+      omega (arith, ap length (rows-next rowKeys words n whole l (omega arith)),
+        length-append (rowLines rowKeys words n l) (getD rowKeys (l % width) [] ++ (decimal v ++ (10 ∷ []))),
+        length-append (getD rowKeys (l % width) []) (decimal v ++ (10 ∷ [])), length-append (decimal v) (10 ∷ []), ap length key)
+
+  rows-short : (good : WellFormed (tableOf words)) (i : ℕ) → i ≤ n → length (rowLines rowKeys words n (i * width)) ≤ 43 * i
+  unfolding taskOf
+  rows-short good zero h = omega (arith, ap length (rows-none rowKeys words n))
+  rows-short good (suc i) h =
+      let rows : length (tableOf words) ≡ n = table-length words ∙ omega arith in
+      let r = good .ranged i (omega arith) in
+      let e = table-row words i (omega arith) in
+      let at = i * width in
+      let end : suc i * width ≡ suc (suc (suc (suc (suc (suc at))))) = omega arith in
+      rw end
+      (omega (arith, rows-short good i (omega arith),
+        line-most i 0 4 at (omega arith) (omega arith) (omega arith) (omega (arith, r .id-high, ap (λ (t : Task). t .id) e)),
+        line-most i 1 4 (suc at) (omega arith) (omega arith) (omega arith) (omega (arith, r .c-high, ap (λ (t : Task). t .c) e)),
+        line-most i 2 4 (suc (suc at)) (omega arith) (omega arith) (omega arith) (omega (arith, r .t-high, ap (λ (t : Task). t .t) e)),
+        line-most i 3 4 (suc (suc (suc at))) (omega arith) (omega arith) (omega arith) (omega (arith, r .d-high, r .t-high, ap (λ (t : Task). t .d) e, ap (λ (t : Task). t .t) e)),
+        line-most i 4 1 (suc (suc (suc (suc at)))) (omega arith) (omega arith) (omega arith) (omega (arith, r .pair .m-high, r .pair .k-high, ap (λ (t : Task). t .m) e, ap (λ (t : Task). t .k) e)),
+        line-most i 5 1 (suc (suc (suc (suc (suc at))))) (omega arith) (omega arith) (omega arith) (omega (arith, r .pair .k-high, ap (λ (t : Task). t .k) e))))
+
+  pub text-longest : WellFormed (tableOf words) → length (textOf rowKeys words) ≤ 1384
+  text-longest good =
+      let rows : length (tableOf words) ≡ n = table-length words ∙ omega arith in
+      let all : n * width ≡ length words = sym whole in
+      omega (arith, good .rows-high, ap length (text-rows rowKeys words n whole (omega arith)),
+        length-append (rowsKey ++ (decimal n ++ (10 ∷ []))) (rowLines rowKeys words n (length words)), length-append (decimal n) (10 ∷ []),
+        decimal-few 1 n (omega (arith, good .rows-high)), rw all at (rows-short good n (omega arith)))
