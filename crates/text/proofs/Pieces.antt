@@ -6,7 +6,7 @@ use native.Mathlib.Nat.{zero-add}
 use native.Mathlib.Numerals.{add-one}
 use native.Mathlib.Omega.{arith}
 use lib.ListN.{take-append-drop, length-set, length, getD, set, take, drop, length-append, length-drop}
-use lib.Seq.{paste, take-length, length-take-le, take-suc, take-at, drop-append-add, drop-drop, set-at, set-split, append-snoc}
+use lib.Seq.{paste, paste-zero, take-length, length-take-le, take-suc, take-at, drop-append-add, drop-drop, set-at, set-split, append-snoc}
 use Rattle.law.specs.Reading.{decimal}
 use Rattle.law.proofs.TextWrite.{Left, left-start, left-next, left-last, left-fits}
 use Rattle.text.specs.Written.{putAt, lineOf}
@@ -27,6 +27,10 @@ module _ (old : List ℕ) (at : ℕ) where
       (rw (take-at front rest (at + length a) n, back)
       (append-assoc (take at old) a (b ++ drop (at + length (a ++ b)) old)
       ∙ ap (λ (z : List ℕ). take at old ++ z) (sym (append-assoc a b (drop (at + length (a ++ b)) old)))))
+
+  pub put-none : putAt old at [] ≡ old
+  unfolding putAt
+  put-none = sym (paste-zero old at [] ∙ append-assoc (take at old) [] (drop (at + 0) old))
 
   pub put-paste : (a : List ℕ) → paste old at a (length a) ≡ putAt old at a
   unfolding putAt

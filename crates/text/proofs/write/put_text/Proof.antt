@@ -1,70 +1,73 @@
-use mathlib.Core.Bool.{Bool, true, false, not}
-use mathlib.Core.List.{List, [], _∷_, _++_}
-use mathlib.Core.Path.{_≡_, refl, sym, ap, _∙_}
-use Prim.Native.Nat.{ℕ, zero, suc, _+_, _-_, _*_, _/_, _%_, _≤_, _<_}
+-- `text::write::put_text` meets its contract: the lines so far stand from the start of the run on.
+use mathlib.Core.Path.{refl}
+use Prim.Native.Nat.{_-_}
 use native.Mathlib.Omega.{arith}
-use lib.Dec.{leb, ltb, eqb}
-use lib.ListN.{length, getD, take, drop, set}
+use lib.ListN.{length}
+use Rattle.text.proofs.Lines.{Behind, First, behind-start, first-fits, behind-long, due-fits, behind-next, behind-all}
 use Rattle.text.proofs.write.put_text.Statement.{statement}
 use Rattle.text.proofs.write.put_text.Tie as tie
-use Rattle.text.proofs.write.put_text.Reads as reads
-use Rattle.text.proofs.write.put_text.Lts as lts
-use Rattle.text.proofs.put.put_line.Reads as put-line-reads
-use Rattle.text.proofs.write.put_due.Reads as put-due-reads
 
 abbrev Inv-loop : tie.InvT-loop
-Inv-loop words rows out₀ at₀ l₀ out at l = ?
+Inv-loop words rows out₀ at₀ l₀ out at l = Behind words rows out₀ at₀ out at l
 
 abbrev μ-loop : tie.MeasureT-loop
-μ-loop words rows out₀ at₀ l₀ out at l = ?
+μ-loop words rows out₀ at₀ l₀ out at l = length words - l
 
--- src/write.rt:44:35
+abbrev start : tie.After-slice-known2 Inv-loop μ-loop → tie.Start Inv-loop μ-loop
+start c = c .before .before .before .before .before .before .before
+
+first : (c : tie.After-slice-known2 Inv-loop μ-loop)
+    → First (start c .args .words .now) (start c .args .rows) (start c .args .out .now) (c .before .before .put-line .last .0) (c .before .before .put-line .result)
+first c =
+    let s = start c in
+    let p = c .before .before .put-line .ensures in
+    record { whole = s .pre .0; next = p .0; bytes = p .1; fits = s .pre .2 }
+
 slice-aggregate-put-line : tie.Need-slice-aggregate-put-line Inv-loop μ-loop
-slice-aggregate-put-line c = ?
+slice-aggregate-put-line c = refl
 
--- src/write.rt:44:9
 put-line-requires : tie.Need-put-line-requires Inv-loop μ-loop
-put-line-requires c κs = ?
+put-line-requires c κs =
+    let s = c .before .before .before .before in
+    (omega (arith, s .pre .1), omega (arith, s .pre .2, first-fits (s .args .words .now) (s .args .rows) (s .pre .0)))
 
--- src/write.rt:46:5
 loop-holds : tie.Need-loop-holds Inv-loop μ-loop
-loop-holds c = ?
+loop-holds c = behind-start _ _ _ _
 
--- src/write.rt:47:42
 mul-put-due : tie.Need-mul-put-due Inv-loop μ-loop
-mul-put-due c = ?
+mul-put-due c = omega arith
 
--- src/write.rt:47:42
 shared-slice-read-put-due : tie.Need-shared-slice-read-put-due Inv-loop μ-loop
-shared-slice-read-put-due c = ?
+shared-slice-read-put-due c = omega arith
 
--- src/write.rt:47:42
 cast-put-due : tie.Need-cast-put-due Inv-loop μ-loop
-cast-put-due c = ?
+cast-put-due c = omega (arith, c .shared-slice-known2 .given (c .before .before .before .loop .l))
 
--- src/write.rt:47:9
 put-due-requires : tie.Need-put-due-requires Inv-loop μ-loop
-put-due-requires c κs = ?
+put-due-requires c κs =
+    let l = c .before .before .before .loop in (
+      omega arith,
+      omega (arith, c .shared-slice-known2 .given (l .l)),
+      due-fits (first (c .before .before .before .before)) (l .inv) (c .before .before .loop-test .taken),
+    )
 
--- src/write.rt:48:9
 add-l : tie.Need-add-l Inv-loop μ-loop
-add-l c = ?
+add-l c = omega (arith, c .before .before .before .before .before .loop-test .taken)
 
--- src/write.rt:46:5
 loop-less : tie.Need-loop-less Inv-loop μ-loop
-loop-less c = ?
+loop-less c = omega (arith, c .before .before .before .before .before .loop-test .taken)
 
--- src/write.rt:46:5
 loop-again : tie.Need-loop-again Inv-loop μ-loop
-loop-again c = ?
+loop-again c =
+    let a = c .before .before .before .before .before .before in
+    let p = c .before .before .put-due .ensures in
+    behind-next (first (a .before)) (a .loop .inv) (c .before .before .before .before .before .loop-test .taken) (p .0) (p .1)
 
--- src/write.rt:39:1
 same-length : tie.Need-same-length Inv-loop μ-loop
-same-length c = ?
+same-length c = behind-long (first (c .before .before)) (c .before .loop .inv)
 
--- src/write.rt:39:1
 returns : tie.Need-returns Inv-loop μ-loop
-returns c = ?
+returns c = behind-all (first (c .before .before)) (c .before .loop .inv) (c .loop-test .left)
 
 pub put-text-spec : {M : Type 1} → statement M
 put-text-spec =
