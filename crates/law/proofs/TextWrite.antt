@@ -8,10 +8,10 @@ use native.Mathlib.Omega.{arith}
 use lib.ListN.{length-map, List·getD-map, length, getD, take, drop, length-append, take-append-drop, List·getD-append}
 use lib.Seq.{take-suc, take-all, length-take-le, getD-append-add}
 use borrow.Author.Tests.{lt-ltb, le-ltb}
-use Rattle.law.specs.Table.{Task, taskOf, taskAt, tableOf, row, width, WellFormed}
+use Rattle.law.specs.Table.{Task, taskOf, tableOf, row, width, WellFormed}
 use Rattle.law.specs.Text.{rowsKey, rowKeys, keysOf, lines}
 use Rattle.law.specs.Reading.{decimalOf, decimal, textOf}
-use Rattle.law.proofs.Table.{Accepted, table-length, table-row}
+use Rattle.law.proofs.Table.{table-length, table-row}
 
 -- a number by its digits: below ten there is one, from ten on the last stands behind those of the tenth
 digits-one : (n v : ℕ) → v < 10 → decimalOf (suc n) v ≡ (48 + v) ∷ []
@@ -115,7 +115,7 @@ module _ (keys values : List (List ℕ)) where
       ap (λ (z : List (List ℕ)). lines z (take (suc n) values)) (take-suc keys n [] h)
       ∙ ap (λ (z : List (List ℕ)). lines (take n keys ++ (getD keys n [] ∷ [])) z) (take-suc values n d l)
       ∙ lines-append (take n keys) (take n values) (getD keys n [] ∷ []) (getD values n d ∷ [])
-          (length-take-le n keys (omega arith) ∙ sym (length-take-le n values (omega arith)))
+      (length-take-le n keys (omega arith) ∙ sym (length-take-le n values (omega arith)))
 
   pub lines-most : (n : ℕ) → n ≤ length keys → n ≤ length values → length (linesTo n) ≤ length (lines keys values)
   unfolding linesTo
@@ -144,11 +144,11 @@ keys-at keys (suc n) l h =
     elim (decLt l (length keys)) [
       | yes k ↦ List·getD-append keys (keysOf keys n) [] l k ∙ ap (λ (z : ℕ). getD keys z []) (sym (mod-eq-of-lt k))
       | no k ↦
-        let r = l - length keys in
-        let e : l ≡ length keys + r = omega arith in
-        ap (λ (z : ℕ). getD (keys ++ keysOf keys n) z []) e ∙ getD-append-add keys (keysOf keys n) r []
-        ∙ keys-at keys n r (omega (arith, suc-mul n (length keys)))
-        ∙ ap (λ (z : ℕ). getD keys z []) (sym (mod-eq-sub-mod {n = l} {m = length keys} (omega arith)))
+          let r = l - length keys in
+          let e : l ≡ length keys + r = omega arith in
+          ap (λ (z : ℕ). getD (keys ++ keysOf keys n) z []) e ∙ getD-append-add keys (keysOf keys n) r []
+          ∙ keys-at keys n r (omega (arith, suc-mul n (length keys)))
+          ∙ ap (λ (z : ℕ). getD keys z []) (sym (mod-eq-sub-mod {n = l} {m = length keys} (omega arith)))
     ]
 
 -- the text of words in whole rows: its first line, and a line for each word
@@ -194,9 +194,14 @@ module _ (words : List ℕ) (n : ℕ) (whole : length words ≡ n * width) where
       let v = getD words l 0 in
       let key : getD rowKeys (l % width) [] ≡ getD rowKeys j [] = let r : l % width ≡ j = omega arith in ap (λ (z : ℕ). getD rowKeys z []) r in
       let few : length (decimal v) ≤ suc k = decimal-few k v (rw e small) in
-      omega (arith, ap length (rows-next rowKeys words n whole l (omega arith)),
+      omega (
+        arith,
+        ap length (rows-next rowKeys words n whole l (omega arith)),
         length-append (rowLines rowKeys words n l) (getD rowKeys (l % width) [] ++ (decimal v ++ (10 ∷ []))),
-        length-append (getD rowKeys (l % width) []) (decimal v ++ (10 ∷ [])), length-append (decimal v) (10 ∷ []), ap length key)
+        length-append (getD rowKeys (l % width) []) (decimal v ++ (10 ∷ [])),
+        length-append (decimal v) (10 ∷ []),
+        ap length key,
+      )
 
   rows-short : (good : WellFormed (tableOf words)) (i : ℕ) → i ≤ n → length (rowLines rowKeys words n (i * width)) ≤ 43 * i
   unfolding taskOf
@@ -208,18 +213,27 @@ module _ (words : List ℕ) (n : ℕ) (whole : length words ≡ n * width) where
       let at = i * width in
       let end : suc i * width ≡ suc (suc (suc (suc (suc (suc at))))) = omega arith in
       rw end
-      (omega (arith, rows-short good i (omega arith),
+      (omega (
+        arith,
+        rows-short good i (omega arith),
         line-most i 0 4 at (omega arith) (omega arith) (omega arith) (omega (arith, r .id-high, ap (λ (t : Task). t .id) e)),
         line-most i 1 4 (suc at) (omega arith) (omega arith) (omega arith) (omega (arith, r .c-high, ap (λ (t : Task). t .c) e)),
         line-most i 2 4 (suc (suc at)) (omega arith) (omega arith) (omega arith) (omega (arith, r .t-high, ap (λ (t : Task). t .t) e)),
         line-most i 3 4 (suc (suc (suc at))) (omega arith) (omega arith) (omega arith) (omega (arith, r .d-high, r .t-high, ap (λ (t : Task). t .d) e, ap (λ (t : Task). t .t) e)),
         line-most i 4 1 (suc (suc (suc (suc at)))) (omega arith) (omega arith) (omega arith) (omega (arith, r .pair .m-high, r .pair .k-high, ap (λ (t : Task). t .m) e, ap (λ (t : Task). t .k) e)),
-        line-most i 5 1 (suc (suc (suc (suc (suc at))))) (omega arith) (omega arith) (omega arith) (omega (arith, r .pair .k-high, ap (λ (t : Task). t .k) e))))
+        line-most i 5 1 (suc (suc (suc (suc (suc at))))) (omega arith) (omega arith) (omega arith) (omega (arith, r .pair .k-high, ap (λ (t : Task). t .k) e)),
+      ))
 
   pub text-longest : WellFormed (tableOf words) → length (textOf rowKeys words) ≤ 1384
   text-longest good =
       let rows : length (tableOf words) ≡ n = table-length words ∙ omega arith in
       let all : n * width ≡ length words = sym whole in
-      omega (arith, good .rows-high, ap length (text-rows rowKeys words n whole (omega arith)),
-        length-append (rowsKey ++ (decimal n ++ (10 ∷ []))) (rowLines rowKeys words n (length words)), length-append (decimal n) (10 ∷ []),
-        decimal-few 1 n (omega (arith, good .rows-high)), rw all at (rows-short good n (omega arith)))
+      omega (
+        arith,
+        good .rows-high,
+        ap length (text-rows rowKeys words n whole (omega arith)),
+        length-append (rowsKey ++ (decimal n ++ (10 ∷ []))) (rowLines rowKeys words n (length words)),
+        length-append (decimal n) (10 ∷ []),
+        decimal-few 1 n (omega (arith, good .rows-high)),
+        rw all at (rows-short good n (omega arith)),
+      )

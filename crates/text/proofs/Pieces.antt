@@ -56,6 +56,10 @@ pub put-front : (old a : List ℕ) → putAt old 0 a ≡ a ++ drop (length a) ol
 unfolding putAt
 put-front old a = ap (λ (z : ℕ). a ++ drop z old) (zero-add (length a))
 
+pub front-taken : {out : List ℕ} {n : ℕ} (old a : List ℕ) → out ≡ putAt old 0 a → n ≡ length a → take n out ≡ a
+front-taken {out} {n} old a e i =
+    ap (λ (z : List ℕ). take n z) (e ∙ put-front old a) ∙ take-at a (drop (length a) old) n (sym i)
+
 -- a line: its length, and that it is put by its three pieces
 pub line-length : (key : List ℕ) (v : ℕ) → length (lineOf key v) ≡ length key + length (decimal v) + 1
 unfolding lineOf

@@ -1,5 +1,4 @@
 // Pieces of text, put into a lent run of bytes at a place: a run of bytes, a number by its digits, a line. The bytes before and after stay.
-ghost use mathlib.Core.List.{_++_};
 ghost use mathlib.Core.Path.{_≡_};
 ghost use Prim.Native.Nat.{_+_, _≤_};
 ghost use lib.ListN.{length};

@@ -1,7 +1,7 @@
 -- `text::put::digits_in` meets its contract: one digit is counted for each tenth taken, and the last one.
 use mathlib.Core.List.{List, [], _∷_}
 use mathlib.Core.Path.{_≡_, refl, ap, _∙_}
-use Prim.Native.Nat.{ℕ, suc, _+_, _-_, _/_, _%_}
+use Prim.Native.Nat.{ℕ, suc, _+_, _-_, _%_}
 use native.Mathlib.Omega.{arith}
 use lib.ListN.{length}
 use Rattle.law.proofs.TextWrite.{Left, left-start, left-next, left-last, left-fits, decimal-most}

@@ -1,6 +1,6 @@
 -- `text::put::put_decimal` meets its contract: the digits that are put stand behind the place of the next one.
 use mathlib.Core.Path.{_≡_}
-use Prim.Native.Nat.{_+_, _-_, _/_}
+use Prim.Native.Nat.{_+_, _-_}
 use native.Mathlib.Omega.{arith}
 use lib.ListN.{length, length-set}
 use Rattle.law.specs.Reading.{decimal}
