@@ -1,11 +1,11 @@
 -- Writing a task text: a number's digits from the last to the first, the lines one after the other, and the length of the longest text.
-use mathlib.Core.List.{map, List, [], _∷_, _++_, append-assoc, append-nil}
+use mathlib.Core.List.{List, [], _∷_, _++_, map, append-assoc, append-nil}
 use mathlib.Core.Path.{_≡_, refl, sym, ap, _∙_}
 use Prim.Native.Nat.{ℕ, zero, suc, _+_, _-_, _*_, _/_, _%_, _^_, _≤_, _<_}
 use native.Mathlib.Decide.{decLt}
 use native.Mathlib.Nat.{suc-mul, mod-eq-of-lt, mod-eq-sub-mod, div-eq-of-eq-mul-left}
 use native.Mathlib.Omega.{arith}
-use lib.ListN.{length-map, List·getD-map, length, getD, take, drop, length-append, take-append-drop, List·getD-append}
+use lib.ListN.{length, getD, take, drop, length-append, length-map, take-append-drop, List·getD-append, List·getD-map}
 use lib.Seq.{take-suc, take-all, length-take-le, getD-append-add}
 use borrow.Author.Tests.{lt-ltb, le-ltb}
 use Rattle.law.specs.Table.{Task, taskOf, tableOf, row, width, WellFormed}
@@ -21,6 +21,10 @@ digits-one n v h = rw (lt-ltb v 10 h)
 digits-more : (n v : ℕ) → 10 ≤ v → decimalOf (suc n) v ≡ decimalOf n (v / 10) ++ ((48 + v % 10) ∷ [])
 unfolding decimalOf
 digits-more n v h = rw (le-ltb v 10 h)
+
+digits-length : (n v : ℕ) → 10 ≤ v → length (decimalOf (suc n) v) ≡ suc (length (decimalOf n (v / 10)))
+digits-length n v h =
+    ap length (digits-more n v h) ∙ length-append (decimalOf n (v / 10)) ((48 + v % 10) ∷ []) ∙ omega arith
 
 -- What is left of a number whose last digits are known: as many digits of `rest` as may still come make it whole.
 pub record Left (v rest : ℕ) (digits : List ℕ) : Type 0 where
@@ -55,7 +59,7 @@ digits-some : (n v : ℕ) → 1 ≤ length (decimalOf (suc n) v)
 digits-some n v =
     elim (decLt v 10) [
       | yes h ↦ omega (arith, ap length (digits-one n v h))
-      | no h ↦ omega (arith, ap length (digits-more n v (omega arith)), length-append (decimalOf n (v / 10)) ((48 + v % 10) ∷ []))
+      | no h ↦ omega (arith, digits-length n v (omega arith))
     ]
 
 pub decimal-some : (v : ℕ) → 1 ≤ length (decimal v)
@@ -73,7 +77,7 @@ digits-most zero v = omega arith
 digits-most (suc n) v =
     elim (decLt v 10) [
       | yes h ↦ omega (arith, ap length (digits-one n v h))
-      | no h ↦ omega (arith, ap length (digits-more n v (omega arith)), length-append (decimalOf n (v / 10)) ((48 + v % 10) ∷ []), digits-most n (v / 10))
+      | no h ↦ omega (arith, digits-length n v (omega arith), digits-most n (v / 10))
     ]
 
 pub decimal-most : (v : ℕ) → length (decimal v) ≤ 10
@@ -87,7 +91,7 @@ digits-few (suc n) zero v h = omega (arith, ap length (digits-one n v (omega ari
 digits-few (suc n) (suc k) v h =
     elim (decLt v 10) [
       | yes l ↦ omega (arith, ap length (digits-one n v l))
-      | no l ↦ omega (arith, ap length (digits-more n v (omega arith)), length-append (decimalOf n (v / 10)) ((48 + v % 10) ∷ []), digits-few n k (v / 10) (omega arith))
+      | no l ↦ omega (arith, digits-length n v (omega arith), digits-few n k (v / 10) (omega arith))
     ]
 
 pub decimal-few : (k v : ℕ) → v < 10 ^ suc k → length (decimal v) ≤ suc k
@@ -174,7 +178,11 @@ module _ (keys : List (List ℕ)) (words : List ℕ) (n : ℕ) where
     rows-most l h =
         let k = keys-length keys n in
         let v = length-map words decimal in
-        omega (arith, ap length (lines-all (keysOf keys n) (map decimal words) (length words) (omega arith) (omega arith)), lines-most (keysOf keys n) (map decimal words) l (omega arith) (omega arith))
+        omega (
+          arith,
+          ap length (lines-all (keysOf keys n) (map decimal words) (length words) (omega arith) (omega arith)),
+          lines-most (keysOf keys n) (map decimal words) l (omega arith) (omega arith),
+        )
 
     pub text-rows : 0 < length keys → textOf keys words ≡ (rowsKey ++ (decimal n ++ (10 ∷ []))) ++ rowLines (length words)
     unfolding textOf lines rowLines
@@ -188,12 +196,12 @@ module _ (keys : List (List ℕ)) (words : List ℕ) (n : ℕ) where
 -- "The longest accepted text is 1,384 bytes": 8 for the first line, 43 for a row
 module _ (words : List ℕ) (n : ℕ) (whole : length words ≡ n * width) where
   -- one line more, of a value with so many digits
-  line-most : (i j k l : ℕ) → i < n → j < width → l ≡ i * width + j → getD words (i * width + j) 0 < 10 ^ suc k
+  line-most : (i j k l : ℕ) → (i < n) × (j < width) × (l ≡ i * width + j) → getD words (i * width + j) 0 < 10 ^ suc k
       → length (rowLines rowKeys words n (suc l)) ≤ length (rowLines rowKeys words n l) + (length (getD rowKeys j []) + suc (suc k))
-  line-most i j k l h m e small =
+  line-most i j k l h small =
       let v = getD words l 0 in
       let key : getD rowKeys (l % width) [] ≡ getD rowKeys j [] = let r : l % width ≡ j = omega arith in ap (λ (z : ℕ). getD rowKeys z []) r in
-      let few : length (decimal v) ≤ suc k = decimal-few k v (rw e small) in
+      let few : length (decimal v) ≤ suc k = decimal-few k v (rw (h .2) small) in
       omega (
         arith,
         ap length (rows-next rowKeys words n whole l (omega arith)),
@@ -216,12 +224,12 @@ module _ (words : List ℕ) (n : ℕ) (whole : length words ≡ n * width) where
       (omega (
         arith,
         rows-short good i (omega arith),
-        line-most i 0 4 at (omega arith) (omega arith) (omega arith) (omega (arith, r .id-high, ap (λ (t : Task). t .id) e)),
-        line-most i 1 4 (suc at) (omega arith) (omega arith) (omega arith) (omega (arith, r .c-high, ap (λ (t : Task). t .c) e)),
-        line-most i 2 4 (suc (suc at)) (omega arith) (omega arith) (omega arith) (omega (arith, r .t-high, ap (λ (t : Task). t .t) e)),
-        line-most i 3 4 (suc (suc (suc at))) (omega arith) (omega arith) (omega arith) (omega (arith, r .d-high, r .t-high, ap (λ (t : Task). t .d) e, ap (λ (t : Task). t .t) e)),
-        line-most i 4 1 (suc (suc (suc (suc at)))) (omega arith) (omega arith) (omega arith) (omega (arith, r .pair .m-high, r .pair .k-high, ap (λ (t : Task). t .m) e, ap (λ (t : Task). t .k) e)),
-        line-most i 5 1 (suc (suc (suc (suc (suc at))))) (omega arith) (omega arith) (omega arith) (omega (arith, r .pair .k-high, ap (λ (t : Task). t .k) e)),
+        line-most i 0 4 at (omega arith) (omega (arith, r .id-high, ap (λ (t : Task). t .id) e)),
+        line-most i 1 4 (suc at) (omega arith) (omega (arith, r .c-high, ap (λ (t : Task). t .c) e)),
+        line-most i 2 4 (suc (suc at)) (omega arith) (omega (arith, r .t-high, ap (λ (t : Task). t .t) e)),
+        line-most i 3 4 (suc (suc (suc at))) (omega arith) (omega (arith, r .d-high, r .t-high, ap (λ (t : Task). t .d) e)),
+        line-most i 4 1 (suc (suc (suc (suc at)))) (omega arith) (omega (arith, r .pair .m-high, r .pair .k-high, ap (λ (t : Task). t .m) e)),
+        line-most i 5 1 (suc (suc (suc (suc (suc at))))) (omega arith) (omega (arith, r .pair .k-high, ap (λ (t : Task). t .k) e)),
       ))
 
   pub text-longest : WellFormed (tableOf words) → length (textOf rowKeys words) ≤ 1384

@@ -76,7 +76,9 @@ module _ {words : List ℕ} {n : ℕ} {room old : List ℕ} {start : ℕ} (f : F
         record {
           reached = omega arith;
           next = rw (← one) (omega (arith, b .next, due-length h));
-          bytes = rw (← one) (p ∙ put-then old start (rowLines rowKeys words n l) line so-far (b .bytes) (b .next) ∙ ap (λ (z : List ℕ). putAt old start z) (sym (due h)));
+          bytes = rw (← one)
+              (p ∙ put-then old start (rowLines rowKeys words n l) line so-far (b .bytes) (b .next)
+              ∙ ap (λ (z : List ℕ). putAt old start z) (sym (due h)));
         }
 
     pub behind-all : length words ≤ l → (at ≡ length (textOf rowKeys words)) × (out ≡ putAt room 0 (textOf rowKeys words))

@@ -5,13 +5,14 @@ use Prim.Native.Nat.{ℕ, suc, _+_, _/_, _%_, _≤_, _<_}
 use native.Mathlib.Nat.{zero-add}
 use native.Mathlib.Numerals.{add-one}
 use native.Mathlib.Omega.{arith}
-use lib.ListN.{take-append-drop, length-set, length, getD, set, take, drop, length-append, length-drop}
+use lib.ListN.{length, getD, set, take, drop, length-append, length-drop, length-set, take-append-drop}
 use lib.Seq.{paste, paste-zero, take-length, length-take-le, take-suc, take-at, drop-append-add, drop-drop, set-at, set-split, append-snoc}
 use Rattle.law.specs.Reading.{decimal}
 use Rattle.law.proofs.TextWrite.{Left, left-start, left-next, left-last, left-fits}
 use Rattle.text.specs.Written.{putAt, lineOf}
 
 module _ (old : List ℕ) (at : ℕ) where
+  -- two pieces, the second where the first ended, are one
   pub put-put : (a b : List ℕ) → at + length a ≤ length old → putAt (putAt old at a) (at + length a) b ≡ putAt old at (a ++ b)
   unfolding putAt
   put-put a b h =
@@ -114,6 +115,7 @@ module _ {old : List ℕ} {at v end : ℕ} {out : List ℕ} {place rest : ℕ} (
   pub filling-in : (at ≤ place) × (place < length out)
   filling-in = omega (arith, f .ends, f .fits, f .next, f .kept, left-fits v rest (f .digits) (f .left))
 
+  -- and where more than one digit is left, it is not the first
   pub filling-far : 10 ≤ rest → at < place
   filling-far h = omega (arith, f .ends, f .next, left-fits v (rest / 10) _ (left-next v rest (f .digits) (f .left) h))
 

@@ -56,7 +56,8 @@ returns c =
     let l = c .before .loop in
     let a = c .before .before .args in
     let e : l .i ≡ length (a .part .now) = omega arith in
-    (ap (λ (z : ℕ). a .at + z) e, l .inv .1 ∙ ap (λ (z : ℕ). paste (a .out .now) (a .at) (a .part .now) z) e ∙ put-paste (a .out .now) (a .at) (a .part .now))
+    let whole = ap (λ (z : ℕ). paste (a .out .now) (a .at) (a .part .now) z) e ∙ put-paste (a .out .now) (a .at) (a .part .now) in
+    (ap (λ (z : ℕ). a .at + z) e, l .inv .1 ∙ whole)
 
 pub put-bytes-spec : {M : Type 1} → statement M
 put-bytes-spec =

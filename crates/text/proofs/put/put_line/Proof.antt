@@ -45,7 +45,8 @@ returns : tie.Need-returns
 returns c =
     let b = c .before .before .before .before .before .before .put-bytes in
     let d = c .before .before .put-decimal in
-    (ended c .0, line-put (start c .args .out .now) (start c .args .at) (start c .args .key .now) (start c .args .v) (start c .pre .1) (b .ensures .1) (b .ensures .0) (d .ensures .1) (d .ensures .0))
+    let a = start c .args in
+    (ended c .0, line-put (a .out .now) (a .at) (a .key .now) (a .v) (start c .pre .1) (b .ensures .1) (b .ensures .0) (d .ensures .1) (d .ensures .0))
 
 pub put-line-spec : {M : Type 1} → statement M
 put-line-spec =

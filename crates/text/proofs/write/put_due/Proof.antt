@@ -78,7 +78,8 @@ same-length c = search needs
 returns : tie.Need-returns
 returns c =
     let p = c .before .before .put-line in
-    put (c .before .before .before .before .before .before .before) (p .result) (p .last .0) 0 (c .before .before .before .before .before .match .keys1) (p .ensures .0, p .ensures .1)
+    let m = c .before .before .before .before .before in
+    put (m .before .before) (p .result) (p .last .0) 0 (m .match .keys1) (p .ensures .0, p .ensures .1)
 
 same-length-2 : tie.Need-same-length-2
 same-length-2 c = search needs
@@ -86,7 +87,8 @@ same-length-2 c = search needs
 returns-2 : tie.Need-returns-2
 returns-2 c =
     let p = c .before .before .put-line2 in
-    put (c .before .before .before .before .before .before .before) (p .result) (p .last .0) 1 (c .before .before .before .before .before .match .keys2) (p .ensures .0, p .ensures .1)
+    let m = c .before .before .before .before .before in
+    put (m .before .before) (p .result) (p .last .0) 1 (m .match .keys2) (p .ensures .0, p .ensures .1)
 
 same-length-3 : tie.Need-same-length-3
 same-length-3 c = search needs
@@ -94,7 +96,8 @@ same-length-3 c = search needs
 returns-3 : tie.Need-returns-3
 returns-3 c =
     let p = c .before .before .put-line3 in
-    put (c .before .before .before .before .before .before .before) (p .result) (p .last .0) 2 (c .before .before .before .before .before .match .keys3) (p .ensures .0, p .ensures .1)
+    let m = c .before .before .before .before .before in
+    put (m .before .before) (p .result) (p .last .0) 2 (m .match .keys3) (p .ensures .0, p .ensures .1)
 
 same-length-4 : tie.Need-same-length-4
 same-length-4 c = search needs
@@ -102,7 +105,8 @@ same-length-4 c = search needs
 returns-4 : tie.Need-returns-4
 returns-4 c =
     let p = c .before .before .put-line4 in
-    put (c .before .before .before .before .before .before .before) (p .result) (p .last .0) 3 (c .before .before .before .before .before .match .keys4) (p .ensures .0, p .ensures .1)
+    let m = c .before .before .before .before .before in
+    put (m .before .before) (p .result) (p .last .0) 3 (m .match .keys4) (p .ensures .0, p .ensures .1)
 
 same-length-5 : tie.Need-same-length-5
 same-length-5 c = search needs
@@ -110,7 +114,8 @@ same-length-5 c = search needs
 returns-5 : tie.Need-returns-5
 returns-5 c =
     let p = c .before .before .put-line5 in
-    put (c .before .before .before .before .before .before .before) (p .result) (p .last .0) 4 (c .before .before .before .before .before .match .keys5) (p .ensures .0, p .ensures .1)
+    let m = c .before .before .before .before .before in
+    put (m .before .before) (p .result) (p .last .0) 4 (m .match .keys5) (p .ensures .0, p .ensures .1)
 
 same-length-6 : tie.Need-same-length-6
 same-length-6 c = search needs
@@ -118,7 +123,8 @@ same-length-6 c = search needs
 returns-6 : tie.Need-returns-6
 returns-6 c =
     let p = c .before .before .put-line6 in
-    put (c .before .before .before .before .before .before .before) (p .result) (p .last .0) 5 (last-key (c .before .before .before .before .before)) (p .ensures .0, p .ensures .1)
+    let m = c .before .before .before .before .before in
+    put (m .before .before) (p .result) (p .last .0) 5 (last-key m) (p .ensures .0, p .ensures .1)
 
 pub put-due-spec : {M : Type 1} → statement M
 put-due-spec =

@@ -16,8 +16,10 @@ abbrev μ-loop : tie.MeasureT-loop
 abbrev start : tie.After-slice-known2 Inv-loop μ-loop → tie.Start Inv-loop μ-loop
 start c = c .before .before .before .before .before .before .before
 
+-- the first line, and the room for the whole
 first : (c : tie.After-slice-known2 Inv-loop μ-loop)
-    → First (start c .args .words .now) (start c .args .rows) (start c .args .out .now) (c .before .before .put-line .last .0) (c .before .before .put-line .result)
+    → First (start c .args .words .now) (start c .args .rows) (start c .args .out .now)
+    (c .before .before .put-line .last .0) (c .before .before .put-line .result)
 first c =
     let s = start c in
     let p = c .before .before .put-line .ensures in
