@@ -77,6 +77,12 @@ pub fn any_values(rng: &mut Rng, rows: usize) -> Vec<u32> {
     (0..rows * ROW_WORDS).map(draw).collect()
 }
 
+/// 32 rows of values of five digits: of the form, and refused for its rows.
+pub fn widest(rng: &mut Rng) -> Vec<u32> {
+    let values = (0..ROWS_MAX * ROW_WORDS).map(|_| rng.word(10_000, VALUE_MAX));
+    values.collect()
+}
+
 /// The text with the byte at this place changed.
 pub fn changed(text: &[u8], at: usize, byte: u8) -> Vec<u8> {
     let mut text = text.to_vec();

@@ -6,7 +6,7 @@ use peer::text::text_of;
 
 use super::same_text;
 use crate::course::{Compared, Course};
-use crate::draw::{any_values, changed, deleted, inserted, short_text, sound, TELLING};
+use crate::draw::{any_values, changed, deleted, inserted, short_text, sound, widest, TELLING};
 
 /// Texts of one row, each byte of which takes every value.
 const ONE_ROW: u32 = 6;
@@ -39,10 +39,11 @@ pub fn two_rows(course: &mut Course) -> Compared {
     Ok(())
 }
 
-/// The same with few bytes, in texts of 1,384 bytes and of as many rows.
+/// The same with few bytes, in texts of 32 rows: the longest that is accepted,
+/// 1,384 bytes, the longest of the form, 1,576 bytes, and a drawn one.
 pub fn longest(course: &mut Course) -> Compared {
     let drawn = sound(&mut course.rng, ROWS_MAX, 65_535);
-    for words in [longest_table(), drawn] {
+    for words in [longest_table(), widest(&mut course.rng), drawn] {
         let telling = [b'0', b'6', b'9', b'=', b'\n', b'\r', b'd', 0, 255];
         every_change(course, &text_of(&words), &telling)?;
     }

@@ -7,7 +7,7 @@ use peer::text::text_of;
 
 use super::{same_again, same_read, same_read_followed, same_text};
 use crate::course::{Compared, Course};
-use crate::draw::{any_values, one_row_with, room_of, rubbish_after, sound, TELLING};
+use crate::draw::{any_values, one_row_with, room_of, rubbish_after, sound, widest, TELLING};
 
 /// Rounds of texts far longer than 1,384 bytes.
 const FAR: u32 = 2_000;
@@ -15,14 +15,13 @@ const FAR: u32 = 2_000;
 /// A room for every table that a text can hold.
 const ROOM: usize = ROWS_MAX * ROW_WORDS;
 
-/// Every beginning of texts of every number of rows, alone and with the rest of
-/// the text right after it in memory.
+/// Every beginning of texts of every number of rows, of the longest that is
+/// accepted and of one as long as the form has for 32 rows: alone, and with the
+/// rest of the text right after it in memory.
 pub fn early(course: &mut Course) -> Compared {
-    for rows in 1..=ROWS_MAX {
-        let words = match rows {
-            ROWS_MAX => longest_table(),
-            _ => sound(&mut course.rng, rows, WORD_MAX),
-        };
+    let mut tables = vec![longest_table(), widest(&mut course.rng)];
+    tables.extend((1..=ROWS_MAX).map(|rows| sound(&mut course.rng, rows, WORD_MAX)));
+    for words in tables {
         let text = text_of(&words);
         for length in 0..=text.len() {
             let room = room_of(&mut course.rng, ROOM);
