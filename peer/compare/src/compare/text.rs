@@ -50,13 +50,13 @@ pub const ALL: &[Comparison] = &[
     Comparison {
         name: "text_changes_every_byte",
         drawn: true,
-        due: &[0, 2, 3, 4, 7, 9, 12],
+        due: &[0, 2, 3, 4, 12],
         run: changes::every_byte,
     },
     Comparison {
         name: "text_changes_two_rows",
         drawn: true,
-        due: &[0, 2, 3, 4, 10, 12],
+        due: &[0, 2, 3, 4, 12],
         run: changes::two_rows,
     },
     Comparison {
@@ -116,7 +116,7 @@ pub const ALL: &[Comparison] = &[
     Comparison {
         name: "text_write_values",
         drawn: true,
-        due: &[0],
+        due: &[0, 13],
         run: writes::values,
     },
     Comparison {

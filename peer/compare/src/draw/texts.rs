@@ -21,8 +21,8 @@ const DIGITS: [u32; 16] = [
     1, 2, 9, 10, 11, 99, 100, 101, 999, 1_000, 9_999, 10_000, 65_535, 65_536, 99_998, 99_999,
 ];
 
-/// The text of a row of so many bytes for each value: short enough that every
-/// change to it can be tried.
+/// The text of a table of so many rows, few of its values longer than two digits:
+/// short enough that every change to it can be tried.
 pub fn short_text(rng: &mut Rng, rows: usize) -> Vec<u8> {
     let mut words = sound(rng, rows, 99);
     for (row, six) in words.chunks_exact_mut(ROW_WORDS).enumerate() {
