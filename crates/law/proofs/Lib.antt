@@ -24,6 +24,7 @@ pub mod TextAnswers
 pub mod TextDecimal
 pub mod Words
 pub mod TextLongest
+pub mod TextSteps
 pub mod TextTrips
 pub mod TextWrite
 pub mod TextExamples

@@ -109,13 +109,16 @@ pub decimal-longest : (m v : ℕ) → v < 10 ^ suc m → length (decimal v) ≤ 
 unfolding decimal
 decimal-longest m v h = digits-most 10 m v h
 
+pub digits-shortest : (n v : ℕ) → 1 ≤ length (decimalOf (suc n) v)
+digits-shortest n v =
+    elim (decLt v 10) [
+      | yes l ↦ omega (arith, length-one n v l)
+      | no l ↦ omega (arith, length-more n v (omega arith))
+    ]
+
 pub decimal-shortest : (v : ℕ) → 1 ≤ length (decimal v)
 unfolding decimal
-decimal-shortest v =
-    elim (decLt v 10) [
-      | yes l ↦ omega (arith, length-one 9 v l)
-      | no l ↦ omega (arith, length-more 9 v (omega arith))
-    ]
+decimal-shortest v = digits-shortest 9 v
 
 -- all of them digits
 pub digit-low : (b : ℕ) → isDigit b ≡ true → 48 ≤ b

@@ -64,7 +64,7 @@ first-local p q n e =
 
 -- the key
 module _ (text : List ℕ) (at : ℕ) (key : List ℕ) where
-  key-high : keyLength text at key ≤ length key
+  pub key-high : keyLength text at key ≤ length key
   unfolding keyLength
   key-high = omega (arith, first-high (λ i. not (eqb (byteAt text (at + i)) (getD key i 0))) 0 (length key))
 
@@ -111,11 +111,11 @@ unfolding isDigit
 digit-byte b e = omega (arith, within-high 48 57 b e)
 
 module _ (text : List ℕ) (at : ℕ) where
-  digits-high : digitsLength text at ≤ 4
+  pub digits-high : digitsLength text at ≤ 4
   unfolding digitsLength
   digits-high = omega (arith, first-high (λ i. not (isDigit (byteAt text (at + i)))) 0 4)
 
-  digits-are : (i : ℕ) → i < digitsLength text at → isDigit (byteAt text (at + i)) ≡ true
+  pub digits-are : (i : ℕ) → i < digitsLength text at → isDigit (byteAt text (at + i)) ≡ true
   unfolding digitsLength
   digits-are i h = not-false _ (first-before (λ i. not (isDigit (byteAt text (at + i)))) 0 4 i (omega arith) h)
 
@@ -142,13 +142,13 @@ module _ (text : List ℕ) (at : ℕ) where
       ap isDigit (getD-take (digitsLength text at) (drop at text) i 256 l ∙ getD-drop at text i 256) ∙ digits-are i l)
 
 -- the three ways in which a value can begin
-data Start (text : List ℕ) (at : ℕ) : Type 0 where
+pub data Start (text : List ℕ) (at : ℕ) : Type 0 where
   naught : eqb (byteAt text at) 48 ≡ true → valueLength text at ≡ 1 → Start text at
   digit : eqb (byteAt text at) 48 ≡ false → isDigit (byteAt text at) ≡ true → valueLength text at ≡ suc (digitsLength text (suc at))
       → Start text at
   neither : eqb (byteAt text at) 48 ≡ false → isDigit (byteAt text at) ≡ false → valueLength text at ≡ 0 → Start text at
 
-start : (text : List ℕ) (at : ℕ) → Start text at
+pub start : (text : List ℕ) (at : ℕ) → Start text at
 unfolding valueLength
 start text at =
     elim (known (eqb (byteAt text at) 48)) [
@@ -309,11 +309,11 @@ module _ (text other : List ℕ) (reach : ℕ) (same : take reach other ≡ take
       )
 
 -- the line: its key is cut short, or it stands whole and the value follows
-line-cut : (text : List ℕ) (at : ℕ) (key : List ℕ) (k : ℕ) → keyLength text at key ≡ k → k < length key → lineAt text at key ≡ fault (at + k)
+pub line-cut : (text : List ℕ) (at : ℕ) (key : List ℕ) (k : ℕ) → keyLength text at key ≡ k → k < length key → lineAt text at key ≡ fault (at + k)
 unfolding lineAt
 line-cut text at key k e h = rw (e, ne-eqb k (length key) (λ q. omega arith))
 
-line-on : (text : List ℕ) (at : ℕ) (key : List ℕ) → keyLength text at key ≡ length key → lineAt text at key ≡ valueAt text (at + length key)
+pub line-on : (text : List ℕ) (at : ℕ) (key : List ℕ) → keyLength text at key ≡ length key → lineAt text at key ≡ valueAt text (at + length key)
 unfolding lineAt
 line-on text at key e = rw (e, eq-eqb (length key) (length key) refl)
 

@@ -29,16 +29,16 @@ came-fell e f = let z : _≡_ {A = ℕ} 0 1 = cc in omega arith
 
 -- one line, then the others
 module _ (text : List ℕ) (at : ℕ) (key : List ℕ) (keys : List (List ℕ)) where
-  lines-on : (values : List ℕ) (next : ℕ) → lineAt text at key ≡ found values next
+  pub lines-on : (values : List ℕ) (next : ℕ) → lineAt text at key ≡ found values next
       → linesAt text at (key ∷ keys) ≡ behind values (linesAt text next keys)
   unfolding linesAt
   lines-on values next e = rw e
 
-  lines-off : (j : ℕ) → lineAt text at key ≡ fault j → linesAt text at (key ∷ keys) ≡ fault j
+  pub lines-off : (j : ℕ) → lineAt text at key ≡ fault j → linesAt text at (key ∷ keys) ≡ fault j
   unfolding linesAt
   lines-off j e = rw e
 
-lines-none : (text : List ℕ) (at : ℕ) → linesAt text at [] ≡ found [] at
+pub lines-none : (text : List ℕ) (at : ℕ) → linesAt text at [] ≡ found [] at
 unfolding linesAt
 lines-none text at = refl
 

@@ -2,10 +2,9 @@
 use mathlib.Core.Bool.{true}
 use mathlib.Core.List.{List, [], _∷_, map}
 use mathlib.Core.Path.{_≡_, refl, sym, ap, _∙_}
-use Prim.Native.Nat.{ℕ, zero, suc, _*_, _/_, _≤_}
-use native.Mathlib.Nat.{suc-mul}
+use Prim.Native.Nat.{ℕ, _*_, _/_, _≤_}
 use native.Mathlib.Omega.{arith}
-use lib.ListN.{length, length-append, length-map}
+use lib.ListN.{length, length-map}
 use borrow.Author.Tests.{leb-true}
 use Rattle.law.specs.Sums.{every}
 use Rattle.law.specs.Refusal.{accepted, head}
@@ -18,13 +17,8 @@ use Rattle.law.proofs.Words.{table-rows, isSmall, words-small}
 use Rattle.law.proofs.TextPlace.{read-on, text-first, text-whole, TextFound, text-sound}
 use Rattle.law.proofs.TextAnswers.{checked-of-rows, read-accepted, words-read, read-says, write-accepted}
 use Rattle.law.proofs.TextDecimal.{decimal-number, decimal-value, number-decimal}
+use Rattle.law.proofs.TextWrite.{keys-length}
 use Rattle.law.proofs.TextLongest.{text-longest, longest, longest-accepted, longest-words}
-
--- as many keys as the rows have, and as many words
-keys-length : (keys : List (List ℕ)) (n : ℕ) → length (keysOf keys n) ≡ n * length keys
-unfolding keysOf
-keys-length keys zero = omega arith
-keys-length keys (suc n) = length-append keys (keysOf keys n) ∙ omega (arith, keys-length keys n, suc-mul n (length keys))
 
 module _ (text : List ℕ) {values words : List ℕ} {next last : ℕ} (line : lineAt text 0 rowsKey ≡ found values next)
     (rows : rowsAt rowKeys text next (head values) ≡ found words last) where

@@ -1,4 +1,4 @@
--- Writing a task text: a number's digits from the last to the first, the lines one after the other, and the length of the longest text.
+-- Writing a task text: a number's digits from the last to the first, and the lines one after the other.
 use mathlib.Core.List.{List, [], _∷_, _++_, map, append-assoc, append-nil}
 use mathlib.Core.Path.{_≡_, refl, sym, ap, _∙_}
 use Prim.Native.Nat.{ℕ, zero, suc, _+_, _-_, _*_, _/_, _%_, _^_, _≤_, _<_}
@@ -7,24 +7,10 @@ use native.Mathlib.Nat.{suc-mul, mod-eq-of-lt, mod-eq-sub-mod, div-eq-of-eq-mul-
 use native.Mathlib.Omega.{arith}
 use lib.ListN.{length, getD, take, drop, length-append, length-map, take-append-drop, List·getD-append, List·getD-map}
 use lib.Seq.{take-suc, take-all, length-take-le, getD-append-add}
-use borrow.Author.Tests.{lt-ltb, le-ltb}
-use Rattle.law.specs.Table.{Task, taskOf, tableOf, row, width, WellFormed}
-use Rattle.law.specs.Text.{rowsKey, rowKeys, keysOf, lines}
+use Rattle.law.specs.Table.{row}
+use Rattle.law.specs.Text.{rowsKey, keysOf, lines}
 use Rattle.law.specs.Reading.{decimalOf, decimal, textOf}
-use Rattle.law.proofs.Table.{table-length, table-row}
-
--- a number by its digits: below ten there is one, from ten on the last stands behind those of the tenth
-digits-one : (n v : ℕ) → v < 10 → decimalOf (suc n) v ≡ (48 + v) ∷ []
-unfolding decimalOf
-digits-one n v h = rw (lt-ltb v 10 h)
-
-digits-more : (n v : ℕ) → 10 ≤ v → decimalOf (suc n) v ≡ decimalOf n (v / 10) ++ ((48 + v % 10) ∷ [])
-unfolding decimalOf
-digits-more n v h = rw (le-ltb v 10 h)
-
-digits-length : (n v : ℕ) → 10 ≤ v → length (decimalOf (suc n) v) ≡ suc (length (decimalOf n (v / 10)))
-digits-length n v h =
-    ap length (digits-more n v h) ∙ length-append (decimalOf n (v / 10)) ((48 + v % 10) ∷ []) ∙ omega arith
+use Rattle.law.proofs.TextDecimal.{decimal-one, decimal-more, digits-shortest}
 
 -- What is left of a number whose last digits are known: as many digits of `rest` as may still come make it whole.
 pub record Left (v rest : ℕ) (digits : List ℕ) : Type 0 where
@@ -47,56 +33,17 @@ left-next v rest digits l h = by (l .more) (l .small) (l .same)
           more = more;
           small = omega arith;
           same = sym (append-assoc (decimalOf (suc more) (rest / 10)) ((48 + rest % 10) ∷ []) digits)
-              ∙ ap (λ (z : List ℕ). z ++ digits) (sym (digits-more (suc more) rest h)) ∙ e;
+              ∙ ap (λ (z : List ℕ). z ++ digits) (sym (decimal-more (suc more) rest h)) ∙ e;
         }
 
 pub left-last : (v rest : ℕ) (digits : List ℕ) → Left v rest digits → rest < 10 → (48 + rest) ∷ digits ≡ decimal v
 left-last v rest digits l h =
-    ap (λ (z : List ℕ). z ++ digits) (sym (digits-one (l .more) rest h)) ∙ l .same
+    ap (λ (z : List ℕ). z ++ digits) (sym (decimal-one (l .more) rest h)) ∙ l .same
 
 -- at least one digit is still to come
-digits-some : (n v : ℕ) → 1 ≤ length (decimalOf (suc n) v)
-digits-some n v =
-    elim (decLt v 10) [
-      | yes h ↦ omega (arith, ap length (digits-one n v h))
-      | no h ↦ omega (arith, digits-length n v (omega arith))
-    ]
-
-pub decimal-some : (v : ℕ) → 1 ≤ length (decimal v)
-unfolding decimal
-decimal-some v = digits-some 9 v
-
 pub left-fits : (v rest : ℕ) (digits : List ℕ) → Left v rest digits → length digits < length (decimal v)
 left-fits v rest digits l =
-    omega (arith, ap length (l .same), length-append (decimalOf (suc (l .more)) rest) digits, digits-some (l .more) rest)
-
--- no number has more digits than may come, nor than its size asks for
-digits-most : (n v : ℕ) → length (decimalOf n v) ≤ n
-unfolding decimalOf
-digits-most zero v = omega arith
-digits-most (suc n) v =
-    elim (decLt v 10) [
-      | yes h ↦ omega (arith, ap length (digits-one n v h))
-      | no h ↦ omega (arith, digits-length n v (omega arith), digits-most n (v / 10))
-    ]
-
-pub decimal-most : (v : ℕ) → length (decimal v) ≤ 10
-unfolding decimal
-decimal-most v = digits-most 10 v
-
-digits-few : (n k v : ℕ) → v < 10 ^ suc k → length (decimalOf n v) ≤ suc k
-unfolding decimalOf
-digits-few zero k v h = omega arith
-digits-few (suc n) zero v h = omega (arith, ap length (digits-one n v (omega arith)))
-digits-few (suc n) (suc k) v h =
-    elim (decLt v 10) [
-      | yes l ↦ omega (arith, ap length (digits-one n v l))
-      | no l ↦ omega (arith, digits-length n v (omega arith), digits-few n k (v / 10) (omega arith))
-    ]
-
-pub decimal-few : (k v : ℕ) → v < 10 ^ suc k → length (decimal v) ≤ suc k
-unfolding decimal
-decimal-few k v h = digits-few 10 k v h
+    omega (arith, ap length (l .same), length-append (decimalOf (suc (l .more)) rest) digits, digits-shortest (l .more) rest)
 
 -- lines: those of two runs of keys and values are the one's behind the other's
 pub lines-append : (keys values keys' values' : List (List ℕ)) → length keys ≡ length values
@@ -192,56 +139,3 @@ module _ (keys : List (List ℕ)) (words : List ℕ) (n : ℕ) where
         let many : length words / length keys ≡ n = div-eq-of-eq-mul-left some whole in
         rw (many, lines-all (keysOf keys n) (map decimal words) (length words) (omega arith) (omega arith))
         (ap (λ (z : List ℕ). rowsKey ++ z) (sym (append-assoc (decimal n) (10 ∷ []) (lines (keysOf keys n) (map decimal words)))))
-
--- "The longest accepted text is 1,384 bytes": 8 for the first line, 43 for a row
-module _ (words : List ℕ) (n : ℕ) (whole : length words ≡ n * width) where
-  -- one line more, of a value with so many digits
-  line-most : (i j k l : ℕ) → (i < n) × (j < width) × (l ≡ i * width + j) → getD words (i * width + j) 0 < 10 ^ suc k
-      → length (rowLines rowKeys words n (suc l)) ≤ length (rowLines rowKeys words n l) + (length (getD rowKeys j []) + suc (suc k))
-  line-most i j k l h small =
-      let v = getD words l 0 in
-      let key : getD rowKeys (l % width) [] ≡ getD rowKeys j [] = let r : l % width ≡ j = omega arith in ap (λ (z : ℕ). getD rowKeys z []) r in
-      let few : length (decimal v) ≤ suc k = decimal-few k v (rw (h .2) small) in
-      omega (
-        arith,
-        ap length (rows-next rowKeys words n whole l (omega arith)),
-        length-append (rowLines rowKeys words n l) (getD rowKeys (l % width) [] ++ (decimal v ++ (10 ∷ []))),
-        length-append (getD rowKeys (l % width) []) (decimal v ++ (10 ∷ [])),
-        length-append (decimal v) (10 ∷ []),
-        ap length key,
-      )
-
-  rows-short : (good : WellFormed (tableOf words)) (i : ℕ) → i ≤ n → length (rowLines rowKeys words n (i * width)) ≤ 43 * i
-  unfolding taskOf
-  rows-short good zero h = omega (arith, ap length (rows-none rowKeys words n))
-  rows-short good (suc i) h =
-      let rows : length (tableOf words) ≡ n = table-length words ∙ omega arith in
-      let r = good .ranged i (omega arith) in
-      let e = table-row words i (omega arith) in
-      let at = i * width in
-      let end : suc i * width ≡ suc (suc (suc (suc (suc (suc at))))) = omega arith in
-      rw end
-      (omega (
-        arith,
-        rows-short good i (omega arith),
-        line-most i 0 4 at (omega arith) (omega (arith, r .id-high, ap (λ (t : Task). t .id) e)),
-        line-most i 1 4 (suc at) (omega arith) (omega (arith, r .c-high, ap (λ (t : Task). t .c) e)),
-        line-most i 2 4 (suc (suc at)) (omega arith) (omega (arith, r .t-high, ap (λ (t : Task). t .t) e)),
-        line-most i 3 4 (suc (suc (suc at))) (omega arith) (omega (arith, r .d-high, r .t-high, ap (λ (t : Task). t .d) e)),
-        line-most i 4 1 (suc (suc (suc (suc at)))) (omega arith) (omega (arith, r .pair .m-high, r .pair .k-high, ap (λ (t : Task). t .m) e)),
-        line-most i 5 1 (suc (suc (suc (suc (suc at))))) (omega arith) (omega (arith, r .pair .k-high, ap (λ (t : Task). t .k) e)),
-      ))
-
-  pub text-longest : WellFormed (tableOf words) → length (textOf rowKeys words) ≤ 1384
-  text-longest good =
-      let rows : length (tableOf words) ≡ n = table-length words ∙ omega arith in
-      let all : n * width ≡ length words = sym whole in
-      omega (
-        arith,
-        good .rows-high,
-        ap length (text-rows rowKeys words n whole (omega arith)),
-        length-append (rowsKey ++ (decimal n ++ (10 ∷ []))) (rowLines rowKeys words n (length words)),
-        length-append (decimal n) (10 ∷ []),
-        decimal-few 1 n (omega (arith, good .rows-high)),
-        rw all at (rows-short good n (omega arith)),
-      )

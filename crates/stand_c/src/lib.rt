@@ -4,6 +4,7 @@ ghost use lib.ListN.{length};
 ghost use Rattle.law.specs.Pattern.{question, pairWord};
 ghost use Rattle.law.specs.Table.{checked};
 ghost use Rattle.law.specs.Verdict.{verdict as verdictLaw, verdictRoom};
+ghost use Rattle.law.specs.Reading.{readAnswer, readRoom, writeAnswer, writeRoom};
 ghost use Rattle.law.specs.State.{freshAnswer, freshWords, runAnswer, runWords, savedAnswer, countsAnswer, countsRoom};
 ghost use Rattle.refusal.specs.Shown.{shown};
 ghost use Rattle.dispatch.specs.Shown.{ranShown};
@@ -14,6 +15,8 @@ use dispatch::run::Ran;
 use dispatch::start::Started;
 use refusal::Refusal;
 use table::Checked;
+use text::read::Reading;
+use text::write::Written;
 use verdict::Verdict;
 
 // Every answer: `refusal` is 0 and `value` the answer's value, or `refusal` is the number that document 01 gives the
@@ -91,6 +94,36 @@ pub extern "C" fn gp_verdict(words: &[u32], room: &mut [u32]) -> Answer
             value: rows as u64,
         },
         Verdict::Refused(r) => refused(r),
+    }
+}
+
+// A task text read into words: its number of rows, and six words a row in the first words of the room.
+#[no_mangle]
+pub extern "C" fn gp_read(text: &[u8], room: &mut [u32]) -> Answer
+    ensures answer { λ a. ⌜ a ≡ numbered (readAnswer (now (text .entry)) (length (now (room .entry)))) ⌝ }
+    ensures room { λ a. ⌜ now (room .exit) ≡ readRoom (now (text .entry)) (now (room .entry)) ⌝ }
+{
+    match text::read::read(text, room) {
+        Reading::Rows(rows) => Answer {
+            refusal: 0,
+            value: rows as u64,
+        },
+        Reading::Refused(r) => refused(r),
+    }
+}
+
+// A table's words written as a task text: its length, and the text in the first bytes of the room.
+#[no_mangle]
+pub extern "C" fn gp_write(words: &[u32], room: &mut [u8]) -> Answer
+    ensures answer { λ a. ⌜ a ≡ numbered (writeAnswer (now (words .entry)) (length (now (room .entry)))) ⌝ }
+    ensures room { λ a. ⌜ now (room .exit) ≡ writeRoom (now (words .entry)) (now (room .entry)) ⌝ }
+{
+    match text::write::write(words, room) {
+        Written::Length(length) => Answer {
+            refusal: 0,
+            value: length as u64,
+        },
+        Written::Refused(r) => refused(r),
     }
 }
 

@@ -1,8 +1,8 @@
 // A task table: a lent run of 32-bit words, six to a row, and the checks of document 01 in their order.
 ghost use mathlib.Core.Path.{_≡_};
-ghost use mathlib.Core.List.{[], _∷_};
+ghost use mathlib.Core.List.{[], _∷_, _++_};
 ghost use Prim.Native.Nat.{_+_, _*_, _/_, _<_, _≤_};
-ghost use lib.ListN.{length, getD};
+ghost use lib.ListN.{length, getD, take, drop};
 ghost use Rattle.law.specs.Refusal.{refused};
 ghost use Rattle.law.specs.Table.{taskAt, tableOf, repeated, faultOf, rowsChecked, checked};
 ghost use Rattle.refusal.specs.Shown.{shown as refusalShown};
@@ -140,4 +140,16 @@ pub fn check(words: &[u32]) -> Checked
         return Checked::Refused(Refusal::ManyRows);
     }
     check_rows(words)
+}
+
+// The first n words of a run, laid into the start of a lent room.
+pub fn lay(words: &[u32], n: usize, room: &mut [u32])
+    requires { ⌜ (n ≤ length (now words)) × (n ≤ length (now room)) ⌝ }
+    ensures { λ r. ⌜ now (room .exit) ≡ take n (now (words .entry)) ++ drop n (now (room .entry)) ⌝ }
+{
+    let mut i = 0;
+    while i < n {
+        room[i] = words[i];
+        i += 1;
+    }
 }

@@ -1,8 +1,7 @@
 // The verdict: whether every mandatory job of a table can meet its deadline, by the first tick at which each row's load fits.
-ghost use mathlib.Core.List.{_++_};
 ghost use mathlib.Core.Path.{_≡_};
 ghost use Prim.Native.Nat.{_≤_, _<_};
-ghost use lib.ListN.{length, take, drop, replicate};
+ghost use lib.ListN.{length, take};
 ghost use Rattle.law.specs.Pattern.{InRange, count as countLaw};
 ghost use Rattle.law.specs.Table.{tableOf, Ranged, WellFormed};
 ghost use Rattle.law.specs.Verdict.{demand as demandLaw, load as loadLaw, misfit, responses, verdict, verdictRoom};
@@ -13,6 +12,7 @@ use table::Checked;
 use table::Task;
 use table::WIDTH;
 use table::check;
+use table::lay;
 use table::task_at;
 
 // The verdict on a table: admitted, with the number of rows, or why not.
@@ -104,18 +104,6 @@ pub fn respond(words: &[u32]) -> Responses
     Responses {
         misfit: rows,
         times,
-    }
-}
-
-// The first n response times, laid into the start of a lent room.
-fn lay(times: &[u32], n: usize, room: &mut [u32])
-    requires { ⌜ (n ≤ length (now times)) × (n ≤ length (now room)) ⌝ }
-    ensures { λ r. ⌜ now (room .exit) ≡ take n (now (times .entry)) ++ drop n (now (room .entry)) ⌝ }
-{
-    let mut i = 0;
-    while i < n {
-        room[i] = times[i];
-        i += 1;
     }
 }
 

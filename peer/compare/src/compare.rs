@@ -4,6 +4,7 @@ mod dispatch;
 mod pattern;
 mod promise;
 mod table;
+mod text;
 mod verdict;
 
 use crate::course::{Compared, Course, Difference};
@@ -35,6 +36,7 @@ pub fn all() -> impl Iterator<Item = &'static Comparison> {
         verdict::ALL,
         dispatch::ALL,
         promise::ALL,
+        text::ALL,
     ];
     parts.into_iter().flatten()
 }

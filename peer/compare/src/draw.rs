@@ -3,10 +3,14 @@
 mod limit;
 mod states;
 mod tables;
+mod texts;
 
 pub use limit::{full_table, limit_pair, short_cycle_pair, slow_table, LimitPair, Shape};
 pub use states::{every_bit, row_counts, state_lengths, state_room, state_room_of, ticks};
 pub use tables::{any_table, damaged, faults_in, off_six, rubbish, run_table, sound, FAULTS};
+pub use texts::{any_values, byte_room, byte_room_of, changed, deleted, inserted, miswritten};
+pub use texts::{nameable, one_row_with, rubbish_after, short_text, widest, with_crs};
+pub use texts::{TELLING, VALUE_MAX};
 
 use peer::rng::Rng;
 

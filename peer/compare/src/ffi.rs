@@ -30,6 +30,8 @@ unsafe extern "C" {
     fn gp_well(state: *const u64, n: usize) -> CAnswer;
     fn gp_tick(state: *mut u64, n: usize) -> CAnswer;
     fn gp_run(state: *mut u64, n: usize, ticks: u32) -> CAnswer;
+    fn gp_read(text: *const u8, n: usize, room: *mut u32, room_n: usize) -> CAnswer;
+    fn gp_write(words: *const u32, n: usize, room: *mut u8, room_n: usize) -> CAnswer;
 }
 
 /// "A question about one job takes m, k and any 32-bit job number."
@@ -92,6 +94,22 @@ pub fn run(state: &mut [u64], ticks: u32) -> Answer {
     unsafe { gp_run(state.as_mut_ptr(), state.len(), ticks) }.into()
 }
 
+/// The table of a task text, its words written to the room.
+#[inline]
+pub fn read(text: &[u8], room: &mut [u32]) -> Answer {
+    let (place, length) = (room.as_mut_ptr(), room.len());
+    // SAFETY: as in [`verdict`], with bytes for the table's words.
+    unsafe { gp_read(text.as_ptr(), text.len(), place, length) }.into()
+}
+
+/// The task text of a table, its bytes written to the room.
+#[inline]
+pub fn write(words: &[u32], room: &mut [u8]) -> Answer {
+    let (place, length) = (room.as_mut_ptr(), room.len());
+    // SAFETY: as in [`verdict`], with bytes for the room's words.
+    unsafe { gp_write(words.as_ptr(), words.len(), place, length) }.into()
+}
+
 /// [`check`] on words whose surroundings are watched.
 ///
 /// A shared slice would let the compiler take it that the words stay as they
@@ -139,4 +157,20 @@ pub fn run_lent(state: &mut Lent<u64>, ticks: u32) -> Answer {
     let (place, length) = (state.pointer(), state.len());
     // SAFETY: as in [`check_lent`].
     unsafe { gp_run(place, length, ticks) }.into()
+}
+
+/// [`read`] on a text and a room whose surroundings are watched.
+pub fn read_lent(text: &mut Lent<u8>, room: &mut Lent<u32>) -> Answer {
+    let (bytes, bytes_length) = (text.pointer(), text.len());
+    let (place, length) = (room.pointer(), room.len());
+    // SAFETY: as in [`verdict_lent`].
+    unsafe { gp_read(bytes, bytes_length, place, length) }.into()
+}
+
+/// [`write`] on a table and a room whose surroundings are watched.
+pub fn write_lent(words: &mut Lent<u32>, room: &mut Lent<u8>) -> Answer {
+    let (table, table_length) = (words.pointer(), words.len());
+    let (place, length) = (room.pointer(), room.len());
+    // SAFETY: as in [`verdict_lent`].
+    unsafe { gp_write(table, table_length, place, length) }.into()
 }

@@ -1,25 +1,35 @@
-//! Words lent to the first program, with watched words on both sides.
+//! Words and bytes lent to the first program, with watched ones on both sides.
 
 use peer::dispatch::STATE_WORDS;
 use peer::rng::Rng;
-use peer::table::ROWS_MAX;
+use peer::table::{ROWS_MAX, ROW_WORDS};
+use peer::text::TEXT_MAX;
 
 /// Watched words before the run, at least.
 const BEFORE: usize = 8;
 
-/// Words of the two widths that are lent.
+/// Words of the three widths that are lent.
 pub trait Word: Copy + PartialEq {
     /// Watched words after the run: more than the longest answer in such words,
     /// so that one written to a room without any space is still caught here.
     const AFTER: usize;
 
-    /// A word out of 64 drawn bits.
+    /// A word out of 64 bits.
     fn of_bits(bits: u64) -> Self;
 }
 
-/// Tables, and rooms for response times.
+/// Texts, and rooms for them.
+impl Word for u8 {
+    const AFTER: usize = TEXT_MAX + 8;
+
+    fn of_bits(bits: u64) -> u8 {
+        bits as u8
+    }
+}
+
+/// Tables, and rooms for them and for response times.
 impl Word for u32 {
-    const AFTER: usize = ROWS_MAX + 8;
+    const AFTER: usize = ROWS_MAX * ROW_WORDS + 8;
 
     fn of_bits(bits: u64) -> u32 {
         bits as u32
@@ -40,28 +50,35 @@ impl Word for u64 {
 /// is written beside the run can be found.
 pub struct Lent<W> {
     buffer: Vec<W>,
+    /// The buffer as it was lent.
+    lent: Vec<W>,
     start: usize,
     len: usize,
-    /// The watched words follow from this number.
-    key: u64,
 }
 
 impl<W: Word> Lent<W> {
     /// Lends a copy of the words. The run begins at a drawn distance, so that
     /// nothing leans on an alignment of more than one word.
     pub fn new(rng: &mut Rng, words: &[W]) -> Lent<W> {
+        Lent::followed(rng, words, &[])
+    }
+
+    /// The same with these words right after the run: they may be what a callee
+    /// that goes past the end would be glad to find.
+    pub fn followed(rng: &mut Rng, words: &[W], after: &[W]) -> Lent<W> {
         let key = rng.bits();
         let (start, len) = (BEFORE + rng.index(4), words.len());
-        let end = start + len;
+        let end = start + len + after.len();
         let mut buffer = Vec::with_capacity(end + W::AFTER);
         buffer.extend((0..start).map(|at| watched::<W>(key, at)));
         buffer.extend_from_slice(words);
+        buffer.extend_from_slice(after);
         buffer.extend((end..end + W::AFTER).map(|at| watched::<W>(key, at)));
         Lent {
+            lent: buffer.clone(),
             buffer,
             start,
             len,
-            key,
         }
     }
 
@@ -90,18 +107,22 @@ impl<W: Word> Lent<W> {
     pub fn altered_beside(&self) -> Vec<(isize, W)> {
         let end = self.start + self.len;
         let sides = (0..self.start).chain(end..self.buffer.len());
-        let altered = sides.filter(|&at| self.buffer[at] != watched(self.key, at));
+        let altered = sides.filter(|&at| self.buffer[at] != self.lent[at]);
         let place = |at: usize| (at as isize - self.start as isize, self.buffer[at]);
         altered.map(place).collect()
     }
 
     /// Whether the run now holds these words and nothing beside it was altered.
     pub fn holds(&self, expected: &[W]) -> bool {
-        self.words() == expected && self.altered_beside().is_empty()
+        let end = self.start + self.len;
+        self.words() == expected
+            && self.buffer[..self.start] == self.lent[..self.start]
+            && self.buffer[end..] == self.lent[end..]
     }
 }
 
 /// The watched word at a place: rubbish, so that no likely answer passes for it.
 fn watched<W: Word>(key: u64, at: usize) -> W {
-    W::of_bits(Rng::new(key.wrapping_add(at as u64)).bits())
+    let mixed = (key ^ at as u64).wrapping_mul(0x9E37_79B9_7F4A_7C15);
+    W::of_bits(mixed ^ mixed >> 32)
 }

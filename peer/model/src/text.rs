@@ -158,3 +158,68 @@ pub fn write(words: &[u32], room: &mut [u8]) -> Answer {
     room.copy_from_slice(&text);
     Answer::accepted(text.len() as u64)
 }
+
+/// Bytes laid into a room from its start, as far as it goes.
+struct Laid<'a> {
+    room: &'a mut [u8],
+    length: usize,
+}
+
+impl Laid<'_> {
+    fn bytes(&mut self, bytes: &[u8]) {
+        let end = self.length + bytes.len();
+        if let Some(room) = self.room.get_mut(self.length..end) {
+            room.copy_from_slice(bytes);
+        }
+        self.length = end;
+    }
+
+    /// One `key=value` line with its LF, for a value of up to five digits.
+    fn line(&mut self, key: &str, value: u32) {
+        self.bytes(key.as_bytes());
+        let (mut end, mut rest, mut first) = (*b"=00000\n", value, 6);
+        loop {
+            first -= 1;
+            end[first] = b'0' + (rest % 10) as u8;
+            rest /= 10;
+            if rest == 0 || first == 1 {
+                break;
+            }
+        }
+        end[first - 1] = b'=';
+        self.bytes(&end[first - 1..]);
+    }
+}
+
+/// Digits of a value as they stand in a text.
+fn digits(value: u32) -> usize {
+    1 + [9, 99, 999, 9_999]
+        .iter()
+        .filter(|&&end| value > end)
+        .count()
+}
+
+/// [`write()`] without a text of its own: the length is counted beforehand and
+/// each line goes straight into the room.
+pub fn write_plain(words: &[u32], room: &mut [u8]) -> Answer {
+    let answer = table::check(words);
+    if !answer.is_accepted() {
+        return answer;
+    }
+    let (sixes, _) = words.as_chunks::<ROW_WORDS>();
+    let keys: usize = KEYS.iter().map(|key| key.len() + 2).sum();
+    let values: usize = words.iter().map(|&word| digits(word)).sum();
+    let first = "rows=\n".len() + digits(sixes.len() as u32);
+    let length = first + sixes.len() * keys + values;
+    let Some(room) = room.get_mut(..length) else {
+        return Answer::refused(refusal::ROOM_TOO_SHORT);
+    };
+    let mut laid = Laid { room, length: 0 };
+    laid.line("rows", sixes.len() as u32);
+    for six in sixes {
+        for (key, word) in KEYS.iter().zip(six) {
+            laid.line(key, *word);
+        }
+    }
+    Answer::accepted(length as u64)
+}

@@ -5,7 +5,7 @@ use peer::brute;
 use peer::gen::{damaged_text, faulty_table, long_texts, longest_table, special_texts, table};
 use peer::rng::Rng;
 use peer::table::check;
-use peer::text::{read, text_of, write, TEXT_MAX};
+use peer::text::{read, text_of, write, write_plain, TEXT_MAX};
 
 /// Reads into a room of so many words, and sees to it that nothing but the
 /// answer's words has changed.
@@ -167,6 +167,29 @@ fn faulty_tables_are_not_written() {
         assert!(room.iter().all(|&byte| byte == 7));
     }
     assert!(refused > 5_000);
+}
+
+/// Both writers: the same answer and the same room, refused or not.
+#[test]
+fn the_plain_writer() {
+    let mut rng = Rng::new(25);
+    let mut seen = [0u32; 14];
+    for at in 0..20_000u32 {
+        let words = match at % 4 {
+            0 => faulty_table(&mut rng),
+            1 => vec![1 + at, 1 + at, 1 + at, 1, 1, 1 + at % 64],
+            _ => table(&mut rng),
+        };
+        let needed = text_of(&words).len();
+        for length in [needed, needed - 1, needed + 1, rng.index(2_000)] {
+            let (mut room, mut plain) = (vec![7; length], vec![7; length]);
+            let answer = write(&words, &mut room);
+            assert_eq!(write_plain(&words, &mut plain), answer, "{words:?}");
+            assert_eq!(plain, room, "{words:?}");
+            seen[answer.refusal as usize] += 1;
+        }
+    }
+    assert!(seen[0] > 30_000 && seen[13] > 15_000, "{seen:?}");
 }
 
 /// "rows (4 to 10), 13": a faulty row is refused before a room too short.

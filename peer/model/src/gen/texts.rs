@@ -1,5 +1,7 @@
 //! Task texts, sound and damaged.
 
+use std::sync::OnceLock;
+
 use super::tables::{faulty_table, repeat_id, table};
 use super::VALUE_MAX;
 use crate::rng::Rng;
@@ -37,8 +39,9 @@ pub fn damaged_text(rng: &mut Rng) -> Vec<u8> {
         text_of(&short_words(rng))
     };
     if rng.once_in(12) {
-        let mut specials = special_texts();
-        text = specials.swap_remove(rng.index(specials.len()));
+        static SPECIALS: OnceLock<Vec<Vec<u8>>> = OnceLock::new();
+        let specials = SPECIALS.get_or_init(special_texts);
+        text.clone_from(&specials[rng.index(specials.len())]);
     }
     let damages = rng.choose(&[0, 1, 1, 1, 1, 2, 3]).unwrap_or(1);
     for _ in 0..damages {

@@ -4,7 +4,8 @@ use mathlib.Core.Path.{_≡_, refl, ap, _∙_}
 use Prim.Native.Nat.{ℕ, suc, _+_, _-_, _%_}
 use native.Mathlib.Omega.{arith}
 use lib.ListN.{length}
-use Rattle.law.proofs.TextWrite.{Left, left-start, left-next, left-last, left-fits, decimal-most}
+use Rattle.law.proofs.TextDecimal.{decimal-ten}
+use Rattle.law.proofs.TextWrite.{Left, left-start, left-next, left-last, left-fits}
 use Rattle.text.proofs.put.digits_in.Statement.{statement}
 use Rattle.text.proofs.put.digits_in.Tie as tie
 
@@ -20,7 +21,7 @@ loop-holds c = ([], refl, left-start _ (c .pre))
 add-n : tie.Need-add-n Inv-loop μ-loop
 add-n c =
     let l = c .before .loop .inv in
-    omega (arith, left-fits _ _ _ (l .2), decimal-most (c .before .before .args .v))
+    omega (arith, left-fits _ _ _ (l .2), decimal-ten (c .before .before .args .v))
 
 loop-less : tie.Need-loop-less Inv-loop μ-loop
 loop-less c = omega arith

@@ -4,7 +4,7 @@ use Prim.Native.Nat.{_+_, _-_}
 use native.Mathlib.Omega.{arith}
 use lib.ListN.{length, length-set}
 use Rattle.law.specs.Reading.{decimal}
-use Rattle.law.proofs.TextWrite.{decimal-some}
+use Rattle.law.proofs.TextDecimal.{decimal-shortest}
 use Rattle.text.proofs.Pieces.{Filling, filling-start, filling-in, filling-far, filling-next, filling-last}
 use Rattle.text.proofs.put.put_decimal.Statement.{statement}
 use Rattle.text.proofs.put.put_decimal.Tie as tie
@@ -22,14 +22,14 @@ add-end : tie.Need-add-end Inv-loop μ-loop
 add-end c = omega (arith, c .digits-in .ensures)
 
 sub-place : tie.Need-sub-place Inv-loop μ-loop
-sub-place c = omega (arith, c .digits-in .ensures, decimal-some (c .before .before .args .v))
+sub-place c = omega (arith, c .digits-in .ensures, decimal-shortest (c .before .before .args .v))
 
 loop-holds : tie.Need-loop-holds Inv-loop μ-loop
 loop-holds c =
     let s = c .before .before in
     let e : s .args .at + c .digits-in .result ≡ s .args .at + length (decimal (s .args .v)) = omega (arith, c .digits-in .ensures) in
     filling-start (s .args .out .now) (s .args .at) (s .args .v) _ _ (s .pre .0) e (omega arith)
-    (omega (arith, c .digits-in .ensures, decimal-some (s .args .v)))
+    (omega (arith, c .digits-in .ensures, decimal-shortest (s .args .v)))
 
 cast-out : tie.Need-cast-out Inv-loop μ-loop
 cast-out c = omega arith

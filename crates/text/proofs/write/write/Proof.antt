@@ -11,7 +11,7 @@ use Rattle.law.specs.Text.{rowKeys}
 use Rattle.law.specs.Reading.{textOf}
 use Rattle.law.proofs.Table.{Accepted, checked-accepted, table-length}
 use Rattle.law.proofs.TextAnswers.{write-refused, write-short, write-accepted, write-filled, write-kept}
-use Rattle.law.proofs.TextWrite.{text-longest}
+use Rattle.law.proofs.TextLongest.{text-longest}
 use Rattle.table.specs.Said.{shown}
 use Rattle.text.proofs.Pieces.{put-front, front-taken}
 use Rattle.text.proofs.write.write.Statement.{statement}
@@ -72,7 +72,7 @@ slice-aggregate-put-text c = search needs
 put-text-requires : tie.Need-put-text-requires
 put-text-requires c κs =
     let k = c .before in
-    (whole k, omega (arith, rows-is k, table k .table .rows-high), text-longest (words k) (rows k) (whole k) (table k .table))
+    (whole k, omega (arith, rows-is k, table k .table .rows-high), text-longest (words k) _ (good k))
 
 returns-2 : tie.Need-returns-2
 returns-2 c =
@@ -85,7 +85,7 @@ array-share-prefix-text : tie.Need-array-share-prefix-text
 array-share-prefix-text c =
     let p = c .before .before .before in
     let k = p .before .before in
-    omega (arith, made p .0, p .put-text .kept .1 .1 .0, text-longest (words k) (rows k) (whole k) (table k .table))
+    omega (arith, made p .0, p .put-text .kept .1 .1 .0, text-longest (words k) _ (good k))
 
 slice-aggregate-put-bytes : tie.Need-slice-aggregate-put-bytes
 slice-aggregate-put-bytes c = let p = c .before .before .before .before in made p .0 ∙ sym (ap length (made p .1))

@@ -1,4 +1,4 @@
--- `verdict::lay` meets its contract: what is laid so far stands before the rest of the room.
+-- `table::lay` meets its contract: what is laid so far stands before the rest of the room.
 use mathlib.Core.List.{List, _++_}
 use mathlib.Core.Path.{_≡_, refl, sym, ap, _∙_}
 use Prim.Native.Nat.{ℕ, _+_, _-_, _≤_, _<_}
@@ -7,15 +7,15 @@ use native.Mathlib.Omega.{arith}
 use lib.ListN.{length, take, drop, getD, set, length-set}
 use lib.Seq.{take-suc, length-take-le}
 use Rattle.law.proofs.Fill.{filled, filled-none, filled-next, filled-is}
-use Rattle.verdict.proofs.lay.Statement.{statement}
-use Rattle.verdict.proofs.lay.Tie as tie
+use Rattle.table.proofs.lay.Statement.{statement}
+use Rattle.table.proofs.lay.Tie as tie
 
 abbrev Inv-loop : tie.InvT-loop
-Inv-loop times n room₀ i₀ room i =
-    (i ≤ n) × (n ≤ length times) × (n ≤ length room₀) × (room ≡ filled (take i times) room₀) × (length room ≡ length room₀)
+Inv-loop words n room₀ i₀ room i =
+    (i ≤ n) × (n ≤ length words) × (n ≤ length room₀) × (room ≡ filled (take i words) room₀) × (length room ≡ length room₀)
 
 abbrev μ-loop : tie.MeasureT-loop
-μ-loop times n room₀ i₀ room i = n - i
+μ-loop words n room₀ i₀ room i = n - i
 
 loop-holds : tie.Need-loop-holds Inv-loop μ-loop
 loop-holds c =
@@ -43,13 +43,13 @@ loop-again : tie.Need-loop-again Inv-loop μ-loop
 loop-again c =
     let l = c .before .before .loop in
     let a = c .before .before .before .args in
-    let h : l .i < length (a .times .now) = omega arith in (
+    let h : l .i < length (a .words .now) = omega arith in (
       omega arith,
       l .inv .1,
       l .inv .2,
-      ap (λ (z : List ℕ). set z (l .i) (getD (a .times .now) (l .i) 0)) (l .inv .3)
-          ∙ filled-next (take (l .i) (a .times .now)) (a .room .now) (l .i) (getD (a .times .now) (l .i) 0) 0 (length-take-le (l .i) (a .times .now) (omega arith)) (omega arith)
-          ∙ ap (λ (z : List ℕ). filled z (a .room .now)) (sym (take-suc (a .times .now) (l .i) 0 h) ∙ ap (λ (z : ℕ). take z (a .times .now)) (sym (add-one (l .i)))),
+      ap (λ (z : List ℕ). set z (l .i) (getD (a .words .now) (l .i) 0)) (l .inv .3)
+          ∙ filled-next (take (l .i) (a .words .now)) (a .room .now) (l .i) (getD (a .words .now) (l .i) 0) 0 (length-take-le (l .i) (a .words .now) (omega arith)) (omega arith)
+          ∙ ap (λ (z : List ℕ). filled z (a .room .now)) (sym (take-suc (a .words .now) (l .i) 0 h) ∙ ap (λ (z : ℕ). take z (a .words .now)) (sym (add-one (l .i)))),
       simp length-set (l .inv .4),
     )
 
@@ -61,8 +61,8 @@ returns c =
     let l = c .before .loop in
     let a = c .before .before .args in
     let e : l .i ≡ a .n = omega arith in
-    l .inv .3 ∙ ap (λ (z : ℕ). filled (take z (a .times .now)) (a .room .now)) e
-    ∙ filled-is (take (a .n) (a .times .now)) (a .room .now) (a .n) (length-take-le (a .n) (a .times .now) (omega arith))
+    l .inv .3 ∙ ap (λ (z : ℕ). filled (take z (a .words .now)) (a .room .now)) e
+    ∙ filled-is (take (a .n) (a .words .now)) (a .room .now) (a .n) (length-take-le (a .n) (a .words .now) (omega arith))
 
 pub lay-spec : {M : Type 1} → statement M
 lay-spec =

@@ -1,0 +1,114 @@
+-- `read::rows_at` meets its contract: the words of the rows read so far stand at the start, the lines of the rows that are left come behind them.
+use mathlib.Core.List.{List, [], _++_}
+use mathlib.Core.Path.{_≡_, refl, sym, ap, _∙_}
+use Prim.Native.Nat.{ℕ, suc, _+_, _-_, _*_, _≤_, _<_}
+use native.Mathlib.Nat.{sub-zero}
+use native.Mathlib.Numerals.{add-one}
+use native.Mathlib.Omega.{arith}
+use lib.ListN.{length, take, drop}
+use lib.Seq.{take-add}
+use borrow.Author.Needs.{needs}
+use Rattle.law.specs.Text.{rowKeys, keysOf}
+use Rattle.law.specs.Reading.{found, linesAt}
+use Rattle.law.proofs.TextSteps.{ReadSo, so-start, so-more, so-broken, so-all, keys-more}
+use Rattle.text.proofs.Ends.{ends}
+use Rattle.text.proofs.read.rows_at.Statement.{statement}
+use Rattle.text.proofs.read.rows_at.Tie as tie
+
+record Reading (text : List ℕ) (from rows : ℕ) (words : List ℕ) (at i : ℕ) : Type 0 where
+  so : ReadSo text from (keysOf rowKeys rows) (take (i * 6) words) (keysOf rowKeys (rows - i)) at
+  long : length words ≡ 192
+  few : rows ≤ 32
+  reached : i ≤ rows
+
+module _ {text : List ℕ} {from rows : ℕ} {words : List ℕ} {at i : ℕ} (r : Reading text from rows words at i) (h : i < rows) where
+  -- the keys of the row that is due, and those of the rows behind it
+  due : ReadSo text from (keysOf rowKeys rows) (take (i * 6) words) (rowKeys ++ keysOf rowKeys (rows - suc i)) at
+  due = rw (keys-more rowKeys rows i h) at (r .so)
+
+  next-row : (new : List ℕ) {next : ℕ} → take (i * 6) new ≡ take (i * 6) words → length new ≡ 192
+      → linesAt text at rowKeys ≡ found (take 6 (drop (i * 6) new)) next → Reading text from rows new next (i + 1)
+  next-row new {next} kept long e =
+      let six : (i + 1) * 6 ≡ i * 6 + 6 = omega arith in
+      let front = ap (λ (n : ℕ). take n new) six ∙ take-add (i * 6) 6 new ∙ ap (λ (l : List ℕ). l ++ take 6 (drop (i * 6) new)) kept in
+      record {
+        so = rw (front, add-one) (so-more rowKeys (keysOf rowKeys (rows - suc i)) due e);
+        long = long;
+        few = r .few;
+        reached = omega arith;
+      }
+
+none-left : keysOf rowKeys 0 ≡ []
+unfolding keysOf
+none-left = refl
+
+abbrev Inv-loop : tie.InvT-loop
+Inv-loop text from words₀ rows at₀ i₀ words at i = Reading text from rows words at i
+
+abbrev μ-loop : tie.MeasureT-loop
+μ-loop text from words₀ rows at₀ i₀ words at i = rows - i
+
+loop-holds : tie.Need-loop-holds Inv-loop μ-loop
+loop-holds c =
+    let p = c .before .pre in
+    record { so = rw sub-zero (so-start (p .0)); long = p .1; few = p .2; reached = omega arith }
+
+row-at-requires : tie.Need-row-at-requires Inv-loop μ-loop
+row-at-requires c κs =
+    let l = c .before .before .loop .inv in
+    (l .so .inside, l .long, omega arith)
+
+enum-known-rest : tie.Need-enum-known-rest Inv-loop μ-loop
+enum-known-rest c = search needs
+
+enum-told : tie.Need-enum-told Inv-loop μ-loop
+enum-told c = search needs
+
+returns : tie.Need-returns Inv-loop μ-loop
+returns c =
+    let r = c .before .before in
+    let t = r .before .before in
+    let l = t .before .loop in
+    let rows = t .before .before .before .args .rows in
+    let broken = sym (r .row-at .ensures .0) ∙ ends (take 6 (drop (l .i * 6) (r .row-at .last .1 .1 .0))) (c .enum-told .given .1) in
+    let e = so-broken rowKeys (keysOf rowKeys (rows - suc (l .i))) (due (l .inv) (t .loop-test .taken)) broken in
+    (ends (take (rows * 6) (r .row-at .last .1 .1 .0)) (c .enum-told .given .1) ∙ sym e, r .row-at .ensures .1 .1)
+
+add-i : tie.Need-add-i Inv-loop μ-loop
+add-i c = omega arith
+
+loop-less : tie.Need-loop-less Inv-loop μ-loop
+loop-less c = omega arith
+
+loop-again : tie.Need-loop-again Inv-loop μ-loop
+loop-again c =
+    let r = c .before .before .before in
+    let t = r .before .before in
+    let new = r .row-at .last .1 .1 .0 in
+    let read = sym (r .row-at .ensures .0) ∙ ends (take 6 (drop (t .before .loop .i * 6) new)) (c .before .rest .given .1) in
+    next-row (t .before .loop .inv) (t .loop-test .taken) new (r .row-at .ensures .1 .0) (r .row-at .ensures .1 .1) read
+
+returns-2 : tie.Need-returns-2 Inv-loop μ-loop
+returns-2 c =
+    let l = c .before .loop in
+    let rows = c .before .before .before .args .rows in
+    let e : l .i ≡ rows = omega (arith, l .inv .reached, c .loop-test .left) in
+    let none : rows - l .i ≡ 0 = omega arith in
+    let all = so-all (rw (none, none-left, e) at (l .inv .so)) in
+    (sym all, l .inv .long)
+
+pub rows-at-spec : {M : Type 1} → statement M
+rows-at-spec =
+    tie.close
+    (tie.spec
+    Inv-loop
+    μ-loop
+    loop-holds
+    row-at-requires
+    enum-known-rest
+    enum-told
+    returns
+    add-i
+    loop-less
+    loop-again
+    returns-2)

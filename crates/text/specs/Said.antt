@@ -1,0 +1,32 @@
+-- How the reader's answers are read as the law's.
+use mathlib.Core.List.{List, [], _∷_}
+use Prim.Native.Nat.{ℕ}
+use Rattle.law.specs.Refusal.{Answer, accepted}
+use Rattle.law.specs.Reading.{Found, found, fault}
+use Rattle.refusal.specs.Shown.{shown as refusalShown}
+use Rattle.text.specs.declared.line.Value.{Value}
+use Rattle.text.specs.declared.line.Value.the-variants.{Is, Fault}
+use Rattle.text.specs.declared.read.Rest.{Rest}
+use Rattle.text.specs.declared.read.Rest.the-variants.{Next, Broken}
+use Rattle.text.specs.declared.read.Reading.{Reading}
+use Rattle.text.specs.declared.read.Reading.the-variants.{Rows, Refused}
+
+-- a line: its value and the place after it, or the place of a fault
+abbrev pub said : Value → Found
+said (Is v next) = found (v ∷ []) next
+said (Fault j) = fault j
+
+-- the place that a line's answer names
+abbrev pub placeOf : Value → ℕ
+placeOf (Is v next) = next
+placeOf (Fault j) = j
+
+-- a run of lines with these values: the place after them, or the place of a fault
+abbrev pub told : Rest → List ℕ → Found
+told (Next next) values = found values next
+told (Broken j) values = fault j
+
+-- a whole text: with the number of rows, or why not
+abbrev pub shown : Reading → Answer
+shown (Rows n) = accepted (n ∷ [])
+shown (Refused r) = refusalShown r

@@ -1,0 +1,136 @@
+// Task text read whole: rows of six lines, their table, and the words laid into a lent room. Each caller of the reader takes its
+// answer apart and stops at a fault.
+ghost use mathlib.Core.List.{[], _∷_};
+ghost use mathlib.Core.Path.{_≡_};
+ghost use Prim.Native.Nat.{_≤_, _<_, _*_};
+ghost use lib.ListN.{length, take, drop};
+ghost use Rattle.law.specs.Text.{rowsKey, rowKeys, keysOf};
+ghost use Rattle.law.specs.Reading.{found, lineAt, linesAt, rowsAt, readAnswer, readRoom};
+ghost use Rattle.text.specs.Said.{placeOf, told, shown};
+use crate::line::Value;
+use crate::line::line_at;
+use crate::reader::value_from;
+use refusal::Refusal;
+use table::Checked;
+use table::WIDTH;
+use table::check;
+use table::lay;
+
+// Where a run of lines ends: the place after them; or the place of a fault.
+pub enum Rest {
+    Next(usize),
+    Broken(usize),
+}
+
+// A text that is read: the number of its rows; or why it is none.
+pub enum Reading {
+    Rows(usize),
+    Refused(Refusal),
+}
+
+// The place that the reader's answer names.
+fn place(answer: Value) -> usize
+    ensures { λ r. ⌜ r ≡ placeOf answer ⌝ }
+{
+    match answer {
+        Value::Is(_, next) => next,
+        Value::Fault(j) => j,
+    }
+}
+
+// The six lines of a row, from a place on, as words of that row.
+fn row_at(text: &[u8], from: usize, words: &mut [u32; 192], row: usize) -> Rest
+    requires { ⌜ (from ≤ length (now text)) × (length (now words) ≡ 192) × (row < 32) ⌝ }
+    ensures read { λ r. ⌜ told r (take 6 (drop (row * 6) (now (words .exit)))) ≡ linesAt (now (text .entry)) from rowKeys ⌝ }
+    ensures kept { λ r. ⌜ take (row * 6) (now (words .exit)) ≡ take (row * 6) (now (words .entry)) ⌝ }
+    ensures length { λ r. ⌜ length (now (words .exit)) ≡ 192 ⌝ }
+{
+    let mut at = from;
+    let mut j = 0;
+    while j < WIDTH {
+        let answer = value_from(text, at, j);
+        let Value::Is(v, next) = answer else {
+            return Rest::Broken(place(answer));
+        };
+        words[row * WIDTH + j] = v as u32;
+        at = next;
+        j += 1;
+    }
+    Rest::Next(at)
+}
+
+// The lines of so many rows, from a place on, as words from the start.
+fn rows_at(text: &[u8], from: usize, words: &mut [u32; 192], rows: usize) -> Rest
+    requires { ⌜ (from ≤ length (now text)) × (length (now words) ≡ 192) × (rows ≤ 32) ⌝ }
+    ensures read { λ r. ⌜ told r (take (rows * 6) (now (words .exit))) ≡ linesAt (now (text .entry)) from (keysOf rowKeys rows) ⌝ }
+    ensures length { λ r. ⌜ length (now (words .exit)) ≡ 192 ⌝ }
+{
+    let mut at = from;
+    let mut i = 0;
+    while i < rows {
+        let rest = row_at(text, at, words, i);
+        let Rest::Next(next) = rest else {
+            return rest;
+        };
+        at = next;
+        i += 1;
+    }
+    Rest::Next(at)
+}
+
+// The same, and nothing after them.
+fn rows_to_end(text: &[u8], from: usize, words: &mut [u32; 192], rows: usize) -> Rest
+    requires { ⌜ (from ≤ length (now text)) × (length (now words) ≡ 192) × (rows ≤ 32) ⌝ }
+    ensures read { λ r. ⌜ told r (take (rows * 6) (now (words .exit))) ≡ rowsAt rowKeys (now (text .entry)) from rows ⌝ }
+    ensures length { λ r. ⌜ length (now (words .exit)) ≡ 192 ⌝ }
+{
+    let rest = rows_at(text, from, words, rows);
+    let Rest::Next(end) = rest else {
+        return rest;
+    };
+    if end != text.len() {
+        return Rest::Broken(end);
+    }
+    rest
+}
+
+// The rows behind the first line: read, checked as a table, and laid into the room.
+fn read_rows(text: &[u8], from: usize, rows: usize, room: &mut [u32]) -> Reading
+    requires { ⌜ (lineAt (now text) 0 rowsKey ≡ found (rows ∷ []) from) × (1 ≤ rows) × (rows ≤ 32) ⌝ }
+    ensures answer { λ r. ⌜ shown r ≡ readAnswer (now (text .entry)) (length (now (room .entry))) ⌝ }
+    ensures room { λ r. ⌜ now (room .exit) ≡ readRoom (now (text .entry)) (now (room .entry)) ⌝ }
+{
+    let mut words = [0u32; 192];
+    let n = rows * WIDTH;
+    match rows_to_end(text, from, &mut words, rows) {
+        Rest::Next(_) => {}
+        Rest::Broken(j) => return Reading::Refused(Refusal::Text(j as u64)),
+    }
+    match check(&words[..n]) {
+        Checked::Rows(_) => {}
+        Checked::Refused(refusal) => return Reading::Refused(refusal),
+    }
+    if room.len() < n {
+        return Reading::Refused(Refusal::Room);
+    }
+    lay(&words, n, room);
+    Reading::Rows(rows)
+}
+
+// A task text, read into a lent room. Read: its words stand in the first words of the room, six to a row. Refused: the room is as it was.
+pub fn read(text: &[u8], room: &mut [u32]) -> Reading
+    ensures answer { λ r. ⌜ shown r ≡ readAnswer (now (text .entry)) (length (now (room .entry))) ⌝ }
+    ensures room { λ r. ⌜ now (room .exit) ≡ readRoom (now (text .entry)) (now (room .entry)) ⌝ }
+{
+    let answer = line_at(text, 0, b"rows=");
+    let Value::Is(rows, next) = answer else {
+        return Reading::Refused(Refusal::Text(place(answer) as u64));
+    };
+    if rows == 0 {
+        return Reading::Refused(Refusal::NoRows);
+    }
+    if 32 < rows {
+        return Reading::Refused(Refusal::ManyRows);
+    }
+    read_rows(text, next, rows as usize, room)
+}

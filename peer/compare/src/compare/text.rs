@@ -1,0 +1,243 @@
+//! "Task text": reading and writing, every answer and every lent word and byte.
+//!
+//! A text is read by three: the first program, the second one, and the rule for
+//! the place of a fault, [`peer::brute`], which asks of bytes whether they begin
+//! some text and has no reader.
+
+mod changes;
+mod ends;
+mod reads;
+mod writes;
+
+use peer::brute;
+use peer::table::ROW_WORDS;
+use peer::text;
+
+use super::Comparison;
+use crate::course::{shown, Compared, Course, Difference};
+use crate::draw::{byte_room_of, room, room_of};
+use crate::ffi;
+use crate::lent::Lent;
+
+/// All that a text can be refused for when the room is long enough.
+const READ_REFUSED: [u64; 11] = [0, 2, 3, 4, 5, 6, 7, 8, 9, 10, 12];
+
+pub const ALL: &[Comparison] = &[
+    Comparison {
+        name: "text_read_drawn",
+        drawn: true,
+        due: &[0, 2, 3, 4, 5, 6, 7, 8, 9, 10, 13],
+        run: reads::drawn,
+    },
+    Comparison {
+        name: "text_read_rooms",
+        drawn: true,
+        due: &[0, 4, 12, 13],
+        run: reads::rooms,
+    },
+    Comparison {
+        name: "text_read_values",
+        drawn: true,
+        due: &[0, 2, 3, 4, 5, 6, 7, 8, 9, 12],
+        run: reads::values,
+    },
+    Comparison {
+        name: "text_read_damaged",
+        drawn: true,
+        due: &READ_REFUSED,
+        run: reads::damaged,
+    },
+    Comparison {
+        name: "text_changes_every_byte",
+        drawn: true,
+        due: &[0, 2, 3, 4, 12],
+        run: changes::every_byte,
+    },
+    Comparison {
+        name: "text_changes_two_rows",
+        drawn: true,
+        due: &[0, 2, 3, 4, 12],
+        run: changes::two_rows,
+    },
+    Comparison {
+        name: "text_changes_longest",
+        drawn: true,
+        due: &[0, 3, 4, 12],
+        run: changes::longest,
+    },
+    Comparison {
+        name: "text_changes_lines",
+        drawn: true,
+        due: &[0, 12],
+        run: changes::lines,
+    },
+    Comparison {
+        name: "text_ends_early",
+        drawn: true,
+        due: &[0, 12],
+        run: ends::early,
+    },
+    Comparison {
+        name: "text_ends_late",
+        drawn: true,
+        due: &[0, 4, 12],
+        run: ends::late,
+    },
+    Comparison {
+        name: "text_ends_special",
+        drawn: false,
+        due: &[0, 2, 3, 12],
+        run: ends::special,
+    },
+    Comparison {
+        name: "text_ends_far",
+        drawn: true,
+        due: &[2, 3, 12],
+        run: ends::far,
+    },
+    Comparison {
+        name: "text_write_lengths",
+        drawn: true,
+        due: &[0, 1, 2, 3, 4],
+        run: writes::lengths,
+    },
+    Comparison {
+        name: "text_write_rooms",
+        drawn: true,
+        due: &[0, 4, 13],
+        run: writes::rooms,
+    },
+    Comparison {
+        name: "text_write_fields",
+        drawn: true,
+        due: &[0, 4, 5, 6, 7, 8, 9, 10, 13],
+        run: writes::fields,
+    },
+    Comparison {
+        name: "text_write_values",
+        drawn: true,
+        due: &[0, 13],
+        run: writes::values,
+    },
+    Comparison {
+        name: "text_write_drawn",
+        drawn: true,
+        due: &[0, 1, 2, 3, 4, 5, 6, 7, 8, 9, 10, 13],
+        run: writes::drawn,
+    },
+];
+
+/// What came of a text that both programs, and the rule, read alike: the words,
+/// or nothing.
+type Words = Result<Option<Vec<u32>>, Difference>;
+
+/// Both readings of a text lent with these bytes right after it, the rule's
+/// answer, and every word and byte that was lent.
+fn same_read_followed(course: &mut Course, text: &[u8], after: &[u8], room: &[u32]) -> Words {
+    let mut lent_text = Lent::followed(&mut course.rng, text, after);
+    let mut lent_room = Lent::new(&mut course.rng, room);
+    let first = ffi::read_lent(&mut lent_text, &mut lent_room);
+    let (mut filled, mut ruled) = (room.to_vec(), room.to_vec());
+    let peer = text::read(text, &mut filled);
+    let rule = brute::read_into(text, &mut ruled);
+    let same = first == peer && lent_text.holds(text) && lent_room.holds(&filled);
+    course.settle(peer, same && peer == rule && filled == ruled, || {
+        format!(
+            "reading of {} bytes, followed by {}:\n{}\nroom before {room:?}\n\
+             first {} room {:?}\npeer  {} room {filled:?}\nrule  {} room {ruled:?}\n\
+             altered beside the room {:?}\n\
+             text after {}\naltered beside the text {:?}",
+            text.len(),
+            after.escape_ascii(),
+            text.escape_ascii(),
+            shown(first),
+            lent_room.words(),
+            shown(peer),
+            shown(rule),
+            lent_room.altered_beside(),
+            lent_text.words().escape_ascii(),
+            lent_text.altered_beside(),
+        )
+    })?;
+    filled.truncate(ROW_WORDS * peer.value as usize);
+    Ok(peer.is_accepted().then_some(filled))
+}
+
+fn same_read(course: &mut Course, text: &[u8], room: &[u32]) -> Words {
+    same_read_followed(course, text, &[], room)
+}
+
+/// Both readings into a drawn room; a text that is accepted is written again by
+/// both, byte for byte.
+fn same_text(course: &mut Course, text: &[u8]) -> Compared {
+    let lines = text.iter().filter(|&&byte| byte == b'\n').count();
+    let words = lines.saturating_sub(1).min(300);
+    let room = room(&mut course.rng, words);
+    match same_read(course, text, &room)? {
+        Some(words) => same_again(course, text, &words),
+        None => Ok(()),
+    }
+}
+
+/// Writes the words that were read and finds the text that they came from.
+fn same_again(course: &mut Course, text: &[u8], words: &[u32]) -> Compared {
+    let room = byte_room_of(&mut course.rng, text.len());
+    let written = same_write(course, words, &room)?;
+    if written.as_deref() == Some(text) {
+        return Ok(());
+    }
+    let (text, written) = (text.escape_ascii(), written.unwrap_or_default());
+    Err(Difference(format!(
+        "words {words:?} read from\n{text}\nare written again as\n{}",
+        written.escape_ascii()
+    )))
+}
+
+/// Both writings of a table, and every word and byte that was lent for them.
+/// The text is handed on if there is one.
+fn same_write(
+    course: &mut Course,
+    words: &[u32],
+    room: &[u8],
+) -> Result<Option<Vec<u8>>, Difference> {
+    let mut lent_words = Lent::new(&mut course.rng, words);
+    let mut lent_room = Lent::new(&mut course.rng, room);
+    let first = ffi::write_lent(&mut lent_words, &mut lent_room);
+    let mut filled = room.to_vec();
+    let peer = text::write(words, &mut filled);
+    let same = first == peer && lent_words.holds(words) && lent_room.holds(&filled);
+    course.settle(peer, same, || {
+        format!(
+            "writing of {words:?}\nroom before, {} bytes: {}\n\
+             first {} room {}\npeer  {} room {}\naltered beside the room {:?}\n\
+             table after {:?}\naltered beside the table {:?}",
+            room.len(),
+            room.escape_ascii(),
+            shown(first),
+            lent_room.words().escape_ascii(),
+            shown(peer),
+            filled.escape_ascii(),
+            lent_room.altered_beside(),
+            lent_words.words(),
+            lent_words.altered_beside(),
+        )
+    })?;
+    filled.truncate(peer.value as usize);
+    Ok(peer.is_accepted().then_some(filled))
+}
+
+/// The text of a table, and the table of that text.
+fn same_there_and_back(course: &mut Course, words: &[u32], room: &[u8]) -> Compared {
+    let Some(text) = same_write(course, words, room)? else {
+        return Ok(());
+    };
+    let room = room_of(&mut course.rng, words.len());
+    let read = same_read(course, &text, &room)?;
+    if read.as_deref() == Some(words) {
+        return Ok(());
+    }
+    let text = text.escape_ascii();
+    Err(Difference(format!(
+        "{words:?} are written as\n{text}\nand read as {read:?}"
+    )))
+}

@@ -1,0 +1,94 @@
+//! Small changes to good texts, each at every place.
+
+use peer::gen::longest_table;
+use peer::table::ROWS_MAX;
+use peer::text::text_of;
+
+use super::same_text;
+use crate::course::{Compared, Course};
+use crate::draw::{any_values, changed, deleted, inserted, short_text, sound, widest, TELLING};
+
+/// Texts of one row, each byte of which takes every value.
+const ONE_ROW: u32 = 6;
+
+/// Texts of two rows, for telling bytes.
+const TWO_ROWS: u32 = 16;
+
+/// Texts of any number of rows whose lines are moved about.
+const MOVED: u32 = 200;
+
+/// Every byte in place of each, and before each and at the end.
+pub fn every_byte(course: &mut Course) -> Compared {
+    let every: Vec<u8> = (0..=255).collect();
+    for _ in 0..ONE_ROW {
+        let text = short_text(&mut course.rng, 1);
+        every_change(course, &text, &every)?;
+    }
+    Ok(())
+}
+
+/// The same with telling bytes, in texts of two rows and of any values.
+pub fn two_rows(course: &mut Course) -> Compared {
+    for round in 0..TWO_ROWS {
+        let text = match round % 2 {
+            0 => short_text(&mut course.rng, 2),
+            _ => text_of(&any_values(&mut course.rng, 2)),
+        };
+        every_change(course, &text, TELLING)?;
+    }
+    Ok(())
+}
+
+/// The same with few bytes, in texts of 32 rows: the longest that is accepted,
+/// 1,384 bytes, the longest of the form, 1,576 bytes, and a drawn one.
+pub fn longest(course: &mut Course) -> Compared {
+    let drawn = sound(&mut course.rng, ROWS_MAX, 65_535);
+    for words in [longest_table(), widest(&mut course.rng), drawn] {
+        let telling = [b'0', b'6', b'9', b'=', b'\n', b'\r', b'd', 0, 255];
+        every_change(course, &text_of(&words), &telling)?;
+    }
+    Ok(())
+}
+
+/// Each byte changed to each of these, each put in at every place, and one to
+/// three bytes taken out at every place.
+fn every_change(course: &mut Course, text: &[u8], bytes: &[u8]) -> Compared {
+    for at in 0..=text.len() {
+        for &byte in bytes {
+            if at < text.len() {
+                same_text(course, &changed(text, at, byte))?;
+            }
+            same_text(course, &inserted(text, at, &[byte]))?;
+        }
+        for count in 1..=3 {
+            same_text(course, &deleted(text, at, count))?;
+        }
+    }
+    Ok(())
+}
+
+/// Lines left out, said twice, put in from elsewhere, and changed about, in
+/// texts of any number of rows.
+pub fn lines(course: &mut Course) -> Compared {
+    for _ in 0..MOVED {
+        let rows = 1 + course.rng.index(ROWS_MAX);
+        let text = text_of(&sound(&mut course.rng, rows, 65_535));
+        let lines: Vec<&[u8]> = text.split_inclusive(|&byte| byte == b'\n').collect();
+        for at in 0..lines.len() {
+            let other = course.rng.index(lines.len());
+            let mut moved = lines.clone();
+            match course.rng.below(6) {
+                0 => {
+                    moved.remove(at);
+                }
+                1 => moved.insert(at, lines[at]),
+                2 => moved.insert(at, lines[other]),
+                3 => moved.swap(at, other),
+                4 => moved[at] = lines[other],
+                _ => moved.insert(at, b"\n"),
+            }
+            same_text(course, &moved.concat())?;
+        }
+    }
+    Ok(())
+}
