@@ -20,7 +20,7 @@ use Rattle.law.proofs.Tests.{both-true}
 use Rattle.law.proofs.Laid.{rows-length, laid-length, state-laid}
 use Rattle.law.proofs.Ticks.{state-tests, tasks-length}
 
-fresh-tasks : (tasks : List Task) → tasksOf (map freshRow tasks) ≡ tasks
+pub fresh-tasks : (tasks : List Task) → tasksOf (map freshRow tasks) ≡ tasks
 fresh-tasks [] = refl
 fresh-tasks (r ∷ tasks) = ap (λ (z : List Task). r ∷ z) (fresh-tasks tasks)
 

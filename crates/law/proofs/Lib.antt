@@ -25,6 +25,7 @@ pub mod TextDecimal
 pub mod Words
 pub mod TextLongest
 pub mod TextSteps
+pub mod TextReach
 pub mod TextTrips
 pub mod TextWrite
 pub mod TextExamples

@@ -233,7 +233,7 @@ keys-bytes keys zero h = refl
 keys-bytes keys (suc n) h = every-append isKey keys (keysOf keys n) h (keys-bytes keys n h)
 
 -- readings of texts with the same beginning
-reached-behind : (values : List ℕ) (r : Found) → reached (behind values r) ≡ reached r
+pub reached-behind : (values : List ℕ) (r : Found) → reached (behind values r) ≡ reached r
 reached-behind values (found more next) = refl
 reached-behind values (fault j) = refl
 

@@ -1,10 +1,10 @@
 -- Document 01, "The printing program": every byte that it prints, from the bytes it reads.
 use mathlib.Core.List.{List, [], _∷_, _++_, map}
 use Prim.Native.Nat.{ℕ, zero, suc, _+_}
-use lib.Dec.{eqb}
+use lib.Dec.{leb, eqb}
 use lib.ListN.{length, getD, drop}
 use Rattle.law.specs.Sums.{pick}
-use Rattle.law.specs.Refusal.{Answer, accepted, refused, head}
+use Rattle.law.specs.Refusal.{Answer, accepted, refused, orRefused, lent, head}
 use Rattle.law.specs.Table.{Task, row, tableOf}
 use Rattle.law.specs.Verdict.{admitted, misfit, response}
 use Rattle.law.specs.Tick.{State, noRow, fresh, run}
@@ -107,3 +107,12 @@ textPrinted input (fault j) = refusalPrinted 12 (j ∷ [])
 -- "It reads standard input: a line `ticks=N` (same value rule; a fault there is 12), then a task text"
 unfoldable pub printed : List ℕ → List ℕ
 printed input = textPrinted input (lineAt input 0 ticksKey)
+
+-- the printing program as a function, with a lent room for what is printed: 13 where it is too short; else the length
+unfoldable pub reportAnswer : List ℕ → ℕ → Answer
+reportAnswer input room =
+    orRefused (leb (length (printed input)) room) (refused 13 []) (accepted (length (printed input) ∷ []))
+
+unfoldable pub reportRoom : List ℕ → List ℕ → List ℕ
+reportRoom input room =
+    lent (reportAnswer input (length room)) (printed input ++ drop (length (printed input)) room) room

@@ -36,11 +36,11 @@ unfolding marks
 marks-most k window = among-size _ 0 k
 
 -- the bytes that lines of numbers take, at most
-abbrev sizes : List (List ℕ) → ℕ
+abbrev pub sizes : List (List ℕ) → ℕ
 sizes [] = 0
 sizes (key ∷ keys) = length key + 11 + sizes keys
 
-numbers-most : (keys : List (List ℕ)) (values : List ℕ) → length (numberLines keys values) ≤ sizes keys
+pub numbers-most : (keys : List (List ℕ)) (values : List ℕ) → length (numberLines keys values) ≤ sizes keys
 unfolding lines
 numbers-most [] values = omega arith
 numbers-most (key ∷ keys) [] = omega arith

@@ -1,3 +1,4 @@
 pub mod Chain
 pub mod Judged
 pub mod Counted
+pub mod Whole

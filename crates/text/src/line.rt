@@ -5,13 +5,23 @@ ghost use Prim.Native.Nat.{_≤_, _<_, _+_};
 ghost use lib.ListN.{length, getD, take, drop};
 ghost use Rattle.law.specs.Text.{isDigit, numberOf, rowKeys};
 ghost use Rattle.law.specs.Reading.{byteAt, keyLength, digitsLength, valueLength, valueAt, lineAt};
-ghost use Rattle.text.specs.Said.{said};
+ghost use Rattle.text.specs.Said.{said, placeOf};
 use refusal::is_within;
 
 // What a line says: its value and the place after it; or the place of a fault.
 pub enum Value {
     Is(u64, usize),
     Fault(usize),
+}
+
+// The place that the reader's answer names.
+pub fn place(answer: Value) -> usize
+    ensures { λ r. ⌜ r ≡ placeOf answer ⌝ }
+{
+    match answer {
+        Value::Is(_, next) => next,
+        Value::Fault(j) => j,
+    }
 }
 
 // The byte at a place. Past the end stands 256, which is no byte: so no test of the length is needed beside the tests of the bytes.

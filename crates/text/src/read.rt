@@ -6,9 +6,10 @@ ghost use Prim.Native.Nat.{_≤_, _<_, _*_};
 ghost use lib.ListN.{length, take, drop};
 ghost use Rattle.law.specs.Text.{rowsKey, rowKeys, keysOf};
 ghost use Rattle.law.specs.Reading.{found, lineAt, linesAt, rowsAt, readAnswer, readRoom};
-ghost use Rattle.text.specs.Said.{placeOf, told, shown};
+ghost use Rattle.text.specs.Said.{told, shown};
 use crate::line::Value;
 use crate::line::line_at;
+use crate::line::place;
 use crate::reader::value_from;
 use refusal::Refusal;
 use table::Checked;
@@ -26,16 +27,6 @@ pub enum Rest {
 pub enum Reading {
     Rows(usize),
     Refused(Refusal),
-}
-
-// The place that the reader's answer names.
-fn place(answer: Value) -> usize
-    ensures { λ r. ⌜ r ≡ placeOf answer ⌝ }
-{
-    match answer {
-        Value::Is(_, next) => next,
-        Value::Fault(j) => j,
-    }
 }
 
 // The six lines of a row, from a place on, as words of that row.
