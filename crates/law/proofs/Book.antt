@@ -1,6 +1,6 @@
 -- The book's rule: the word of each pair stands at its place. Shelf by shelf, for the words of k fill the places from k(k-1)/2 on.
-use mathlib.Core.List.{List, [], _∷_, _++_}
-use mathlib.Core.Path.{_≡_, refl, sym, ap, _∙_}
+use mathlib.Core.List.{[], _∷_}
+use mathlib.Core.Path.{_≡_, refl, ap, _∙_}
 use Prim.Native.Nat.{ℕ, zero, suc, _+_, _-_, _*_, _/_, _≤_, _<_}
 use native.Mathlib.Decide.{decLt}
 use native.Mathlib.Nat.{mul-div-cancel, suc-mul, mul-suc, add-suc, add-zero}

@@ -1,6 +1,6 @@
 -- Searching and building, a number at a time: what a loop has found so far, and what a list built from a function holds.
 use mathlib.Core.Bool.{Bool, true, false}
-use mathlib.Core.List.{List, [], _∷_, _++_}
+use mathlib.Core.List.{[], _∷_}
 use mathlib.Core.Path.{_≡_, refl, sym, ap, _∙_}
 use Prim.Native.Nat.{ℕ, zero, suc, _+_, _-_, _≤_, _<_}
 use native.Mathlib.Decide.{decLt}
@@ -9,8 +9,8 @@ use native.Mathlib.Numerals.{add-one}
 use native.Mathlib.Omega.{arith}
 use lib.ListN.{length, getD, length-append, List·getD-append}
 use lib.Seq.{getD-at}
-use Rattle.law.specs.Sums.{bit, pick, firstFrom, first, build}
-use Rattle.law.proofs.Tests.{Known, passes, fails, known, never-both}
+use Rattle.law.specs.Sums.{pick, firstFrom, first, build}
+use Rattle.law.proofs.Tests.{passes, fails, known, never-both}
 
 -- what a loop that has come to i has found of the first number below n that passes: it is still to come, from i on
 pub record Searched (p : ℕ → Bool) (n i : ℕ) : Type 0 where

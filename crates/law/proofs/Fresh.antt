@@ -1,20 +1,19 @@
 -- The fresh state of a well-formed table is well formed, and the words of a well-formed state are well-formed words.
-use mathlib.Core.Bool.{Bool, true, false}
-use mathlib.Core.List.{List, [], _∷_, _++_, map, append-nil}
-use mathlib.Core.Logic.{_⊎_, inl, inr}
+use mathlib.Core.Bool.{true}
+use mathlib.Core.List.{List, [], _∷_, map}
+use mathlib.Core.Logic.{inl}
 use mathlib.Core.Path.{_≡_, refl, sym, ap, _∙_, subst}
-use Prim.Native.Nat.{ℕ, zero, suc, _+_, _-_, _*_, _^_, _≤_, _<_}
-use native.Mathlib.Nat.{add-zero}
+use Prim.Native.Nat.{ℕ, zero, suc, _+_, _-_, _*_, _≤_}
 use native.Mathlib.Omega.{arith}
 use lib.Dec.{eqb}
 use lib.ListN.{length, getD, drop, replicate, length-map, List·getD-map}
 use lib.Pow.{ones-lt}
 use lib.Seq.{drop-at}
 use borrow.Author.Tests.{eq-eqb}
-use Rattle.law.specs.Sums.{bit, both, every}
+use Rattle.law.specs.Sums.{every}
 use Rattle.law.specs.Table.{Task, noTask, row, Ranged, WellFormed}
-use Rattle.law.specs.Tick.{Row, State, noRow, freshRow, fresh, clockEnd}
-use Rattle.law.specs.State.{tasksOf, stateWell, stateOf, rowsLaid, laid, savedWell}
+use Rattle.law.specs.Tick.{State, freshRow, fresh}
+use Rattle.law.specs.State.{tasksOf, stateWell, rowsLaid, laid, savedWell}
 use Rattle.law.specs.Sound.{SoundRow, SoundState}
 use Rattle.law.proofs.Tests.{both-true}
 use Rattle.law.proofs.Laid.{rows-length, laid-length, state-laid}

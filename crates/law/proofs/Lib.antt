@@ -28,5 +28,6 @@ pub mod TextSteps
 pub mod TextReach
 pub mod TextTrips
 pub mod TextWrite
+pub mod Report
 pub mod TextExamples
 pub mod ReportExamples

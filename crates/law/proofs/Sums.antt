@@ -12,7 +12,7 @@ use lib.ListN.{length, getD, set, drop, drop-of-length-le}
 use lib.Seq.{drop-cons}
 use borrow.Author.Tests.{lt-ltb, le-ltb, eq-eqb, ne-eqb}
 use Rattle.law.specs.Sums.{bit, both, sum, among, mapFrom, every}
-use Rattle.law.proofs.Tests.{both-left, both-right, both-pass, both-fail, bit-mono, bit-most, never-both, known, passes, fails}
+use Rattle.law.proofs.Tests.{bit-mono, bit-most}
 
 -- sums
 pub sum-mono : (f h : ℕ → ℕ) (n : ℕ) → ((j : ℕ) → j < n → f j ≤ h j) → sum f n ≤ sum h n

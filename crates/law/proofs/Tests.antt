@@ -1,7 +1,7 @@
 -- Tests and bits: what a conjunction that passes says of its parts, and that a bit tells its test.
 use mathlib.Core.Bool.{Bool, true, false}
 use mathlib.Core.Path.{_≡_, refl, sym, ap, _∙_}
-use Prim.Native.Nat.{ℕ, _≤_}
+use Prim.Native.Nat.{_≤_}
 use native.Mathlib.Omega.{arith}
 use Rattle.law.specs.Sums.{bit, both}
 

@@ -1,21 +1,20 @@
 -- How far a reading looks: no further than the longest text of so many rows and one byte more. So a text may be cut there, and a fault's place is small.
 use mathlib.Core.Bool.{Bool, true, false}
 use mathlib.Core.List.{List, [], _∷_, _++_}
-use mathlib.Core.Path.{_≡_, refl, sym, ap, _∙_}
+use mathlib.Core.Path.{_≡_, refl, ap, _∙_}
 use Prim.Native.Nat.{ℕ, zero, suc, _+_, _-_, _*_, _≤_, _<_}
 use native.Mathlib.Decide.{decLt}
 use native.Mathlib.Omega.{arith}
 use lib.Dec.{leb, ltb, eqb}
-use lib.ListN.{length, take, drop}
+use lib.ListN.{length, take}
 use lib.Seq.{take-take, take-all, length-take-le}
 use borrow.Author.Tests.{ne-eqb, leb-true}
 use Rattle.law.specs.Sums.{pick}
-use Rattle.law.specs.Refusal.{Answer, accepted, refused, orRefused, after, head}
-use Rattle.law.specs.Table.{tableOf, rowsChecked}
+use Rattle.law.specs.Refusal.{accepted, refused, orRefused, head}
 use Rattle.law.specs.Text.{rowsKey, rowKeys, keysOf}
-use Rattle.law.specs.Reading.{Found, found, fault, keyLength, valueLength, lineAt, linesAt, ended, behind, rowsAt, textRead, rowsAnswer, firstAnswer, readAnswer, wordsRead}
+use Rattle.law.specs.Reading.{Found, found, fault, keyLength, lineAt, linesAt, ended, behind, rowsAt, rowsAnswer, firstAnswer, readAnswer, wordsRead}
 use Rattle.law.proofs.TextLine.{reached, key-high, value-reached, line-cut, line-on, line-local}
-use Rattle.law.proofs.TextLines.{Outcome, came, fell, outcome, reached-behind, lines-none, lines-off, lines-on, lines-local}
+use Rattle.law.proofs.TextLines.{came, fell, outcome, reached-behind, lines-none, lines-off, lines-on, lines-local}
 use Rattle.law.proofs.TextAnswers.{read-says, words-read}
 use Rattle.law.proofs.TextSteps.{value-most}
 

@@ -1,18 +1,17 @@
 -- "a tick is defined on each such state below the clock's end", and keeps it well formed; so does a run; and what any run adds up to.
-use mathlib.Core.Bool.{Bool, true, false, not}
-use mathlib.Core.List.{List, [], _∷_, map}
+use mathlib.Core.Bool.{Bool, true}
+use mathlib.Core.List.{List, [], _∷_}
 use mathlib.Core.Path.{_≡_, refl, sym, ap, _∙_, subst}
-use Prim.Native.Nat.{ℕ, zero, suc, _+_, _-_, _*_, _≤_, _<_}
-use native.Mathlib.Nat.{add-zero, zero-add, add-suc, add-assoc}
-use native.Mathlib.Numerals.{add-one}
+use Prim.Native.Nat.{ℕ, zero, suc, _+_, _-_, _≤_, _<_}
+use native.Mathlib.Nat.{add-zero, zero-add, add-suc}
 use native.Mathlib.Omega.{arith}
-use lib.Dec.{leb, ltb, eqb}
+use lib.Dec.{leb, eqb}
 use lib.ListN.{length, getD, length-map, List·getD-map}
 use borrow.Author.Tests.{leb-true, eqb-true, le-leb, eq-eqb}
-use Rattle.law.specs.Sums.{bit, both, every, mapFrom}
+use Rattle.law.specs.Sums.{every, mapFrom}
 use Rattle.law.specs.Refusal.{within}
-use Rattle.law.specs.Table.{Task, row, noTask, WellFormed, faulty}
-use Rattle.law.specs.Tick.{Row, State, noRow, coreAt, fullLength, release, releaseRow, releaseAll, advance, advanceRow, advanceAll, choose, begin, finish, tick, run, clockEnd}
+use Rattle.law.specs.Table.{Task, row, WellFormed}
+use Rattle.law.specs.Tick.{Row, State, noRow, fullLength, release, releaseRow, releaseAll, advance, advanceRow, advanceAll, choose, begin, finish, tick, run, clockEnd}
 use Rattle.law.specs.State.{tasksOf, tableWell, rowWell, stateWell}
 use Rattle.law.specs.Sound.{SoundRow, SoundState}
 use Rattle.law.proofs.Tests.{both-left, both-right, both-true, bit-most}

@@ -2,7 +2,7 @@
 -- row chosen, which is live, or is idle.
 use mathlib.Core.Bool.{Bool, true, false}
 use mathlib.Core.List.{List}
-use mathlib.Core.Path.{_≡_, refl, sym, ap, _∙_}
+use mathlib.Core.Path.{_≡_, refl, ap, _∙_}
 use Prim.Native.Nat.{ℕ, zero, suc, _+_, _-_, _≤_, _<_}
 use native.Mathlib.Decide.{decLt}
 use native.Mathlib.Nat.{ne-of-lt}
@@ -10,9 +10,9 @@ use native.Mathlib.Omega.{arith}
 use lib.Dec.{eqb, ltb}
 use lib.ListN.{length}
 use borrow.Author.Tests.{lt-ltb, le-ltb, ltb-true, ltb-false, eq-eqb, ne-eqb}
-use Rattle.law.specs.Sums.{bit, both, pick, sum, first}
+use Rattle.law.specs.Sums.{bit, both, pick, first}
 use Rattle.law.specs.Tick.{Core, Row, State, coreAt, live, urgent, workAfter, choose, fullLength, begin, finish, tick, run, unitsIn, units}
-use Rattle.law.proofs.Tests.{Known, known, passes, fails, both-left, both-true}
+use Rattle.law.proofs.Tests.{known, passes, fails, both-left, both-true}
 use Rattle.law.proofs.First.{first-high, first-found}
 use Rattle.law.proofs.Sums.{sum-only, sum-cong}
 use Rattle.law.proofs.Ticks.{begun-length}

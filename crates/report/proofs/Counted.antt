@@ -1,23 +1,19 @@
 -- The counts of a row of a well-formed state are numbers of 32 bits, and rows are printed one behind the other.
-use mathlib.Core.Bool.{Bool, true}
-use mathlib.Core.List.{List, [], _∷_, _++_}
+use mathlib.Core.List.{List, [], _∷_}
 use mathlib.Core.Path.{_≡_, refl, sym, ap, _∙_}
-use Prim.Native.Nat.{ℕ, suc, _+_, _-_, _*_, _≤_, _<_}
+use Prim.Native.Nat.{ℕ, _+_, _-_, _*_, _≤_}
 use native.Mathlib.Numerals.{add-one}
 use native.Mathlib.Omega.{arith}
-use lib.Dec.{leb}
-use lib.ListN.{length, getD, length-append}
+use lib.ListN.{length, length-append}
 use borrow.Author.Tests.{le-leb}
 use Rattle.law.specs.Sums.{every}
 use Rattle.law.specs.Table.{Task, row}
-use Rattle.law.specs.Tick.{Row, State, noRow, clockEnd, marks, spare}
+use Rattle.law.specs.Tick.{Row, State, clockEnd, marks, spare}
 use Rattle.law.specs.State.{countsOf, settledCounts}
 use Rattle.law.specs.Sound.{SoundRow}
-use Rattle.law.specs.Text.{lines}
-use Rattle.law.specs.Reading.{decimal}
-use Rattle.law.specs.Report.{printedKeys, numberLines, responsePrinted, rowPrinted, rowsPrinted}
+use Rattle.law.specs.Report.{rowPrinted, rowsPrinted}
+use Rattle.law.proofs.Report.{row-most}
 use Rattle.law.proofs.Sums.{among-size}
-use Rattle.law.proofs.TextDecimal.{decimal-ten}
 use Rattle.law.proofs.Tests.{both-true}
 use Rattle.text.specs.Written.{putAt}
 use Rattle.text.proofs.Pieces.{put-none, put-length, put-then}
@@ -34,28 +30,6 @@ small-none = refl
 marks-most : (k window : ℕ) → marks k window ≤ k
 unfolding marks
 marks-most k window = among-size _ 0 k
-
--- the bytes that lines of numbers take, at most
-abbrev pub sizes : List (List ℕ) → ℕ
-sizes [] = 0
-sizes (key ∷ keys) = length key + 11 + sizes keys
-
-pub numbers-most : (keys : List (List ℕ)) (values : List ℕ) → length (numberLines keys values) ≤ sizes keys
-unfolding lines
-numbers-most [] values = omega arith
-numbers-most (key ∷ keys) [] = omega arith
-numbers-most (key ∷ keys) (v ∷ values) =
-    omega (
-      arith,
-      length-append key (decimal v ++ (10 ∷ numberLines keys values)),
-      length-append (decimal v) (10 ∷ numberLines keys values),
-      decimal-ten v,
-      numbers-most keys values,
-    )
-
-pub row-most : (tasks : List Task) (s : State) (i : ℕ) → length (rowPrinted tasks s i) ≤ 153
-unfolding rowPrinted
-row-most tasks s i = numbers-most printedKeys (i ∷ row tasks i .id ∷ responsePrinted tasks i ∷ countsOf (getD (s .rows) i noRow))
 
 pub counts-small : {time : ℕ} {r : Row} → SoundRow 0 time r → time ≤ clockEnd → Small (countsOf r)
 unfolding countsOf spare

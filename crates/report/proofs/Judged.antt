@@ -1,20 +1,19 @@
 -- The verdict on a good table, as it is printed: the two answers told apart, and the response times that stand in a room of zeros.
-use mathlib.Core.Bool.{Bool, true, false}
+use mathlib.Core.Bool.{true, false}
 use mathlib.Core.List.{List, [], _∷_, _++_}
-use mathlib.Core.Path.{_≡_, refl, sym, ap, _∙_, subst}
+use mathlib.Core.Path.{_≡_, sym, ap, _∙_}
 use Prim.Native.Nat.{ℕ, _≤_, _<_}
 use native.Mathlib.Decide.{decLt}
 use native.Mathlib.Omega.{arith}
-use lib.Dec.{eqb}
 use lib.ListN.{length, getD, drop, replicate, length-append, length-replicate, getD-replicate, List·getD-append}
 use borrow.Author.Tests.{eqb-true, eqb-false}
 use Rattle.law.specs.Refusal.{Answer, accepted, refused, codeOf}
 use Rattle.law.specs.Table.{tableOf, row, Ranged}
 use Rattle.law.specs.Verdict.{admitted, misfit, response, responses, verdict, verdictRoom}
 use Rattle.law.specs.Report.{admittedLine, unschedulableLine, atKey, numberLines, verdictPrinted, responsePrinted}
-use Rattle.law.proofs.Tests.{Known, passes, fails, known}
+use Rattle.law.proofs.Tests.{passes, fails, known}
 use Rattle.law.proofs.First.{build-length, build-at}
-use Rattle.law.proofs.Table.{Accepted, checked-accepted}
+use Rattle.law.proofs.Table.{checked-accepted}
 use Rattle.law.proofs.Verdict.{misfit-most, verdict-late, verdict-admitted}
 use Rattle.report.specs.Said.{Good, Responded}
 
@@ -47,8 +46,8 @@ module _ {words : List ℕ} (good : Good words) where
         record {
           enough = omega (arith, ap length e, length-append (responses (tableOf words)) (drop (length (tableOf words)) (replicate 32 0)), n);
           at = λ i h. ap (λ (z : List ℕ). getD z i 0) e
-            ∙ List·getD-append (responses (tableOf words)) _ 0 i (omega (arith, n))
-            ∙ build-at (response (tableOf words)) (length (tableOf words)) i 0 h ∙ rw all;
+              ∙ List·getD-append (responses (tableOf words)) _ 0 i (omega (arith, n))
+              ∙ build-at (response (tableOf words)) (length (tableOf words)) i 0 h ∙ rw all;
         }
 
   module _ (none : admitted (tableOf words) ≡ false) where

@@ -1,16 +1,14 @@
 -- The pieces of a whole print: the state after the run, and the verdict, two lines and the rows as one.
 use mathlib.Core.List.{List, [], _∷_, _++_}
-use mathlib.Core.Path.{_≡_, refl, sym, ap, _∙_, subst}
-use Prim.Native.Nat.{ℕ, _+_, _≤_, _<_}
+use mathlib.Core.Path.{_≡_, ap, _∙_}
+use Prim.Native.Nat.{ℕ, _+_, _≤_}
 use native.Mathlib.Omega.{arith}
 use lib.ListN.{length, getD, replicate, length-append}
-use Rattle.law.specs.Sums.{pick}
 use Rattle.law.specs.Table.{Task, tableOf}
 use Rattle.law.specs.Tick.{State, fresh, run, clockEnd}
 use Rattle.law.specs.State.{stateOf, laid, tasksOf, freshWords, runWords}
-use Rattle.law.specs.Verdict.{admitted, misfit}
-use Rattle.law.specs.Report.{ticksKey, idleKey, atKey, admittedLine, unschedulableLine, numberLines, verdictPrinted, rowsPrinted, statePrinted, runPrinted}
-use Rattle.law.proofs.Tests.{Known, passes, fails, known}
+use Rattle.law.specs.Report.{ticksKey, idleKey, numberLines, verdictPrinted, rowsPrinted, statePrinted}
+use Rattle.law.proofs.Report.{verdict-most}
 use Rattle.law.proofs.Table.{checked-accepted}
 use Rattle.law.proofs.Ticks.{run-tasks, run-sound}
 use Rattle.law.proofs.Fresh.{fresh-sound, fresh-tasks}
@@ -21,19 +19,7 @@ use Rattle.dispatch.proofs.Begun.{begun-run}
 use Rattle.text.specs.Written.{putAt}
 use Rattle.text.proofs.Pieces.{put-then, put-length}
 use Rattle.report.specs.Said.{Good}
-use Rattle.report.proofs.Chain.{Lined, lined-long}
-use Rattle.report.proofs.Counted.{numbers-most}
-
--- the verdict takes few bytes
-pub verdict-most : (tasks : List Task) → length (verdictPrinted tasks) ≤ 36
-unfolding verdictPrinted
-verdict-most tasks = by (known (admitted tasks))
-  where
-    by : Known (admitted tasks) → length (pick (admitted tasks) admittedLine (unschedulableLine ++ numberLines (atKey ∷ []) (misfit tasks ∷ []))) ≤ 36
-    by (passes e) = rw e (omega arith)
-    by (fails e) =
-        rw e
-        (omega (arith, length-append unschedulableLine (numberLines (atKey ∷ []) (misfit tasks ∷ [])), numbers-most (atKey ∷ []) (misfit tasks ∷ [])))
+use Rattle.report.proofs.Chain.{Lined}
 
 -- the state after the run
 module _ {words : List ℕ} (good : Good words) (n : ℕ) (early : n ≤ clockEnd) {first state : List ℕ}

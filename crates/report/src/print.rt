@@ -32,7 +32,11 @@ fn printed_place(r: Refusal, start: u64) -> u64
     requires { ⌜ start + head (alsoOf r) ≤ 4294967295 ⌝ }
     ensures { λ n. ⌜ n ≡ head (placed start (numberOf r) (alsoOf r)) ⌝ }
 {
-    if number(r) == 12 { start + also(r) } else { also(r) }
+    if number(r) == 12 {
+        start + also(r)
+    } else {
+        also(r)
+    }
 }
 
 // A refusal: its number, then the row or place where there is one.

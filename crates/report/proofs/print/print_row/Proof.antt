@@ -1,6 +1,5 @@
 -- `report::print::print_row` meets its contract: ten lines, each behind the one before.
 use mathlib.Core.List.{List, [], _∷_}
-use mathlib.Core.Path.{_≡_}
 use Prim.Native.Nat.{ℕ, _≤_}
 use native.Mathlib.Omega.{arith}
 use lib.ListN.{getD, take}

@@ -1,16 +1,14 @@
 -- `report::print::print_rows` meets its contract: each row behind the one before.
-use mathlib.Core.List.{List, [], _∷_, _++_}
-use mathlib.Core.Path.{_≡_, refl, sym, ap, _∙_, subst}
+use mathlib.Core.List.{List, _∷_}
+use mathlib.Core.Path.{_≡_, sym, ap, _∙_, subst}
 use Prim.Native.Nat.{ℕ, _+_, _-_, _*_, _/_, _≤_, _<_}
 use native.Mathlib.Omega.{arith}
 use lib.ListN.{length, getD}
 use Rattle.law.specs.Table.{Task, tableOf, row}
-use Rattle.law.specs.Tick.{noRow}
-use Rattle.law.specs.State.{stateOf, tasksOf, countsOf}
-use Rattle.law.specs.Report.{printedKeys, numberLines, rowPrinted, rowsPrinted, responsePrinted}
-use Rattle.law.proofs.Table.{Accepted, checked-accepted, table-length, table-row}
+use Rattle.law.specs.State.{stateOf}
+use Rattle.law.specs.Report.{printedKeys, numberLines, rowPrinted, responsePrinted}
+use Rattle.law.proofs.Table.{table-length, table-row}
 use Rattle.law.proofs.Ticks.{tasks-length}
-use Rattle.table.specs.Said.{taskSaid}
 use Rattle.dispatch.specs.Shown.{countsSaid}
 use Rattle.text.specs.Written.{putAt}
 use Rattle.report.specs.Said.{Small}

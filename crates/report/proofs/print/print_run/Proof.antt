@@ -1,6 +1,6 @@
 -- `report::print::print_run` meets its contract: the verdict, two lines and the rows of the state after the run.
 use mathlib.Core.List.{List, [], _∷_}
-use mathlib.Core.Path.{_≡_, sym, ap, _∙_}
+use mathlib.Core.Path.{_≡_, ap, _∙_}
 use Prim.Native.Nat.{ℕ, _+_, _≤_}
 use native.Mathlib.Omega.{arith}
 use lib.ListN.{length, getD}
@@ -8,10 +8,11 @@ use borrow.Author.Needs.{needs}
 use Rattle.law.specs.Table.{tableOf}
 use Rattle.law.specs.Tick.{State, clockEnd, run, fresh}
 use Rattle.law.specs.Report.{ticksKey, idleKey, verdictPrinted, rowsPrinted, runPrinted}
+use Rattle.law.proofs.Report.{verdict-most}
 use Rattle.text.specs.Written.{putAt}
 use Rattle.text.proofs.Pieces.{put-length}
 use Rattle.report.proofs.Chain.{Lined, lined-none, lined-long, lined-fits, lined-next}
-use Rattle.report.proofs.Whole.{verdict-most, after-is, after-held, after-tasks, after-idle, idle-small, whole-printed}
+use Rattle.report.proofs.Whole.{after-is, after-held, after-tasks, after-idle, idle-small, whole-printed}
 use Rattle.report.proofs.print.print_run.Statement.{statement}
 use Rattle.report.proofs.print.print_run.Tie as tie
 

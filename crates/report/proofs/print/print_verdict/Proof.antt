@@ -1,22 +1,22 @@
 -- `report::print::print_verdict` meets its contract: the two answers of the verdict, and the times as it left them.
 use mathlib.Core.List.{List, [], _∷_, _++_}
 use mathlib.Core.Path.{_≡_, refl, sym, ap, _∙_, subst}
-use Prim.Native.Nat.{ℕ, _+_, _≤_}
+use Prim.Native.Nat.{ℕ, _+_}
 use native.Mathlib.Omega.{arith}
-use lib.ListN.{length, replicate, length-append, length-replicate}
+use lib.ListN.{length, replicate, length-append}
 use borrow.Author.Needs.{needs}
 use Rattle.law.specs.Refusal.{head}
 use Rattle.law.specs.Table.{tableOf}
 use Rattle.law.specs.Text.{lines}
 use Rattle.law.specs.Verdict.{verdict, verdictRoom, misfit}
-use Rattle.law.specs.Report.{admittedLine, unschedulableLine, atKey, numberLines, verdictPrinted}
+use Rattle.law.specs.Report.{unschedulableLine, atKey, numberLines, verdictPrinted}
 use Rattle.law.proofs.Verdict.{misfit-most}
 use Rattle.refusal.specs.declared.Refusal.{Refusal}
 use Rattle.refusal.specs.Shown.{numberOf, alsoOf}
 use Rattle.text.specs.Written.{putAt, lineOf}
 use Rattle.text.proofs.Pieces.{put-then, put-length}
 use Rattle.verdict.specs.Said.{shown}
-use Rattle.report.specs.Said.{Good, Responded}
+use Rattle.report.specs.Said.{Responded}
 use Rattle.report.proofs.Chain.{line-most, number-some}
 use Rattle.report.proofs.Judged.{good-few, told-admitted, told-late}
 use Rattle.report.proofs.print.print_verdict.Statement.{statement}

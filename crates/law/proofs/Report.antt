@@ -1,0 +1,208 @@
+-- What is printed, by its cases, and that the numbers in it are small.
+use mathlib.Core.Bool.{Bool, true, false, not}
+use mathlib.Core.List.{List, [], _∷_, _++_}
+use mathlib.Core.Path.{_≡_, refl, sym, ap, _∙_}
+use Prim.Native.Nat.{ℕ, zero, suc, _+_, _-_, _*_, _≤_, _<_}
+use native.Mathlib.Omega.{arith}
+use lib.Dec.{leb, ltb, eqb}
+use lib.ListN.{length, getD, take, drop, length-append}
+use borrow.Author.Tests.{leb-true, le-leb, lt-leb}
+use Rattle.law.specs.Refusal.{Answer, accepted, refused, orRefused, after, head}
+use Rattle.law.specs.Table.{Task, row, tableOf, rowFault, faulty, rowsChecked}
+use Rattle.law.specs.Tick.{State, noRow, fresh, run}
+use Rattle.law.specs.State.{countsOf}
+use Rattle.law.specs.Verdict.{admitted, misfit}
+use Rattle.law.specs.Text.{rowsKey, rowKeys, lines}
+use Rattle.law.specs.Reading.{Found, found, fault, decimal, lineAt, rowsAt, rowsAnswer, firstAnswer, readAnswer, wordsRead}
+use Rattle.law.specs.Report.{ticksKey, idleKey, atKey, refusedKey, admittedLine, unschedulableLine, printedKeys, numberLines, refusalPrinted, verdictPrinted, responsePrinted, rowPrinted, rowsPrinted, statePrinted, runPrinted, placed, textPrinted, answerPrinted, printed, reportAnswer, reportRoom}
+use Rattle.law.proofs.Tests.{Known, passes, fails, known}
+use Rattle.law.specs.Sums.{pick}
+use Rattle.law.proofs.First.{first-high}
+use Rattle.law.proofs.Lists.{take-drop}
+use Rattle.law.proofs.Table.{table-length}
+use Rattle.law.proofs.TextLine.{reached, line-sound}
+use Rattle.law.proofs.TextDecimal.{number-most, decimal-ten}
+use Rattle.law.proofs.TextReach.{line-reach, rows-reach, line-short, read-short-text, words-short}
+use Rattle.law.proofs.TextTrips.{words-many, read-write}
+
+module _ (input : List ℕ) where
+  pub printed-unread : {j : ℕ} → lineAt input 0 ticksKey ≡ fault j → printed input ≡ refusalPrinted 12 (j ∷ [])
+  unfolding printed
+  printed-unread e = rw e
+
+  module _ {values : List ℕ} {next : ℕ} (line : lineAt input 0 ticksKey ≡ found values next) where
+    pub printed-refused : {n : ℕ} {also : List ℕ} → readAnswer (drop next input) 192 ≡ refused n also
+        → printed input ≡ refusalPrinted n (placed next n also)
+    unfolding printed
+    printed-refused e = rw (line, e)
+
+    pub printed-run : {rows : List ℕ} → readAnswer (drop next input) 192 ≡ accepted rows
+        → printed input ≡ runPrinted (tableOf (wordsRead (drop next input))) (head values)
+    unfolding printed
+    printed-run e = rw (line, e)
+
+-- what a line says is small, and ends inside the text
+pub line-says-small : (text : List ℕ) (at : ℕ) (key : List ℕ) {values : List ℕ} {next : ℕ} → lineAt text at key ≡ found values next
+    → (head values ≤ 99999) × (next ≤ length text)
+line-says-small text at key {values} {next} e =
+    let l = line-sound text at key values next e in
+    (omega (arith, ap head (l .word), number-most (l .digits) (l .good)), l .fits)
+
+-- a refusal's row or place is small
+-- what a refusal also returns, 0 where there is none
+alsoIn : Answer → ℕ
+alsoIn (accepted vs) = 0
+alsoIn (refused n also) = head also
+
+faulty-most : (tasks : List Task) → faulty tasks ≤ length tasks
+unfolding faulty
+faulty-most tasks = omega (arith, first-high (λ i. not (eqb (rowFault tasks i) 0)) 0 (length tasks))
+
+rows-refused-small : (tasks : List Task) (n : ℕ) (also : List ℕ) → rowsChecked tasks ≡ refused n also → head also ≤ length tasks
+unfolding rowsChecked alsoIn
+rows-refused-small tasks n also e = by (eqb (faulty tasks) (length tasks)) e
+  where
+    by : (b : Bool) → orRefused b (refused (rowFault tasks (faulty tasks)) (faulty tasks ∷ [])) (accepted (length tasks ∷ [])) ≡ refused n also
+        → head also ≤ length tasks
+    by true e = omega (arith, ap alsoIn e)
+    by false e = omega (arith, faulty-most tasks, ap alsoIn e)
+
+answer-small : (text : List ℕ) (room : ℕ) (values : List ℕ) (next : ℕ) → lineAt text 0 rowsKey ≡ found values next → head values ≤ 32
+    → (f : Found) → rowsAt rowKeys text next (head values) ≡ f → (n : ℕ) (also : List ℕ) → rowsAnswer room f ≡ refused n also → head also ≤ 1580
+unfolding alsoIn
+answer-small text room values next line few (fault j) rows n also e =
+    omega (arith, ap alsoIn e, rows-reach text next (head values), ap reached rows, line-reach text 0 rowsKey, ap reached line)
+answer-small text room values next line few (found words last) rows n also e =
+    by (rowsChecked (tableOf words)) refl e
+  where
+    short : (b : Bool) → orRefused b (refused 13 []) (accepted (length (tableOf words) ∷ [])) ≡ refused n also → head also ≤ 1580
+    short true e = omega (arith, ap alsoIn e)
+    short false e = omega (arith, ap alsoIn e)
+
+    by : (a : Answer) → rowsChecked (tableOf words) ≡ a
+        → after a (orRefused (leb (length words) room) (refused 13 []) (accepted (length (tableOf words) ∷ []))) ≡ refused n also → head also ≤ 1580
+    by (accepted vs) g e = short (leb (length words) room) e
+    by (refused m more) g e =
+        omega (arith, ap alsoIn e, rows-refused-small (tableOf words) m more g, table-length words, words-many text line rows)
+
+pub refused-small : (text : List ℕ) (room n : ℕ) (also : List ℕ) → readAnswer text room ≡ refused n also → head also ≤ 1580
+unfolding readAnswer alsoIn
+refused-small text room n also e = by (lineAt text 0 rowsKey) refl e
+  where
+    rest : (values : List ℕ) (next : ℕ) → lineAt text 0 rowsKey ≡ found values next → (a b : Bool) → leb (head values) 32 ≡ b
+        → orRefused a (refused 2 []) (orRefused b (refused 3 []) (rowsAnswer room (rowsAt rowKeys text next (head values)))) ≡ refused n also
+        → head also ≤ 1580
+    rest values next line false b g e = omega (arith, ap alsoIn e)
+    rest values next line true false g e = omega (arith, ap alsoIn e)
+    rest values next line true true g e =
+        answer-small text room values next line (leb-true (head values) 32 g) (rowsAt rowKeys text next (head values)) refl n also e
+
+    by : (f : Found) → lineAt text 0 rowsKey ≡ f → firstAnswer text room f ≡ refused n also → head also ≤ 1580
+    by (fault j) g e = omega (arith, ap alsoIn e, line-reach text 0 rowsKey, ap reached g)
+    by (found values next) g e = rest values next g (ltb 0 (head values)) (leb (head values) 32) refl e
+
+-- An input may be cut behind its first 1,592 bytes: twelve of the first line, and what reading a task text looks at.
+pub printed-cut : (input : List ℕ) (m : ℕ) → 1592 ≤ m → printed (take m input) ≡ printed input
+unfolding printed
+printed-cut input m h =
+    ap (textPrinted (take m input)) (line-short input m 0 ticksKey (omega arith)) ∙ by (lineAt input 0 ticksKey) refl
+  where
+    text : (values : List ℕ) (next : ℕ) → next ≤ 12 → (a : Answer) → readAnswer (drop next input) 192 ≡ a
+        → answerPrinted (head values) next (wordsRead (take (m - next) (drop next input))) a ≡ answerPrinted (head values) next (wordsRead (drop next input)) a
+    text values next l (refused n also) e = refl
+    text values next l (accepted rows) e =
+        ap (λ (z : List ℕ). runPrinted (tableOf z) (head values)) (words-short (drop next input) (m - next) 192 rows (omega arith) e)
+
+    by : (f : Found) → lineAt input 0 ticksKey ≡ f → textPrinted (take m input) f ≡ textPrinted input f
+    by (fault j) e = refl
+    by (found values next) e =
+        let l : next ≤ 12 = omega (arith, line-reach input 0 ticksKey, ap reached e) in
+        let cut : drop next (take m input) ≡ take (m - next) (drop next input) =
+        let e : next + (m - next) ≡ m = omega arith in ap (λ (z : ℕ). drop next (take z input)) (sym e) ∙ sym (take-drop next (m - next) input) in
+        ap (λ (z : List ℕ). answerPrinted (head values) next (wordsRead z) (readAnswer z 192)) cut
+        ∙ ap (answerPrinted (head values) next (wordsRead (take (m - next) (drop next input)))) (read-short-text (drop next input) (m - next) 192 (omega arith))
+        ∙ text values next l (readAnswer (drop next input) 192) refl
+
+-- the bytes that lines of numbers take, at most
+abbrev pub sizes : List (List ℕ) → ℕ
+sizes [] = 0
+sizes (key ∷ keys) = length key + 11 + sizes keys
+
+pub numbers-most : (keys : List (List ℕ)) (values : List ℕ) → length (numberLines keys values) ≤ sizes keys
+unfolding lines
+numbers-most [] values = omega arith
+numbers-most (key ∷ keys) [] = omega arith
+numbers-most (key ∷ keys) (v ∷ values) =
+    omega (
+      arith,
+      length-append key (decimal v ++ (10 ∷ numberLines keys values)),
+      length-append (decimal v) (10 ∷ numberLines keys values),
+      decimal-ten v,
+      numbers-most keys values,
+    )
+
+pub row-most : (tasks : List Task) (s : State) (i : ℕ) → length (rowPrinted tasks s i) ≤ 153
+unfolding rowPrinted
+row-most tasks s i = numbers-most printedKeys (i ∷ row tasks i .id ∷ responsePrinted tasks i ∷ countsOf (getD (s .rows) i noRow))
+
+-- the verdict takes few bytes
+pub verdict-most : (tasks : List Task) → length (verdictPrinted tasks) ≤ 36
+unfolding verdictPrinted
+verdict-most tasks = by (known (admitted tasks))
+  where
+    by : Known (admitted tasks) → length (pick (admitted tasks) admittedLine (unschedulableLine ++ numberLines (atKey ∷ []) (misfit tasks ∷ []))) ≤ 36
+    by (passes e) = rw e (omega arith)
+    by (fails e) =
+        rw e
+        (omega (arith, length-append unschedulableLine (numberLines (atKey ∷ []) (misfit tasks ∷ [])), numbers-most (atKey ∷ []) (misfit tasks ∷ [])))
+
+rows-most : (tasks : List Task) (s : State) (n : ℕ) → length (rowsPrinted tasks s n) ≤ n * 153
+unfolding rowsPrinted
+rows-most tasks s zero = omega arith
+rows-most tasks s (suc n) =
+    omega (arith, length-append (rowsPrinted tasks s n) (rowPrinted tasks s n), rows-most tasks s n, row-most tasks s n)
+
+run-most : (tasks : List Task) (n : ℕ) → length tasks ≤ 32 → length (runPrinted tasks n) ≤ 5120
+unfolding runPrinted statePrinted
+run-most tasks n h =
+    let s = run n (fresh tasks) in
+    let both : List ℕ = numberLines (ticksKey ∷ idleKey ∷ []) (n ∷ s .idle ∷ []) in
+    omega (
+      arith,
+      length-append (verdictPrinted tasks) (both ++ rowsPrinted tasks s (length tasks)),
+      length-append both (rowsPrinted tasks s (length tasks)),
+      verdict-most tasks,
+      numbers-most (ticksKey ∷ idleKey ∷ []) (n ∷ s .idle ∷ []),
+      rows-most tasks s (length tasks),
+    )
+
+refusal-most : (n : ℕ) (also : List ℕ) → length (refusalPrinted n also) ≤ 5120
+refusal-most n [] = omega (arith, numbers-most (refusedKey ∷ []) (n ∷ []))
+refusal-most n (at ∷ more) = omega (arith, numbers-most (refusedKey ∷ atKey ∷ []) (n ∷ at ∷ []))
+
+-- a room of 5,120 bytes takes every answer
+pub printed-most : (input : List ℕ) → length (printed input) ≤ 5120
+unfolding printed
+printed-most input = by (lineAt input 0 ticksKey)
+  where
+    text : (values : List ℕ) (next : ℕ) (a : Answer) → readAnswer (drop next input) 192 ≡ a
+        → length (answerPrinted (head values) next (wordsRead (drop next input)) a) ≤ 5120
+    text values next (refused n also) e = refusal-most n (placed next n also)
+    text values next (accepted rows) e =
+        let t = read-write (drop next input) 192 rows e in
+        run-most (tableOf (wordsRead (drop next input))) (head values) (omega (arith, table-length (wordsRead (drop next input)), t .high))
+
+    by : (f : Found) → length (textPrinted input f) ≤ 5120
+    by (fault j) = refusal-most 12 (j ∷ [])
+    by (found values next) = text values next (readAnswer (drop next input) 192) refl
+
+-- the printing program as a function, by its cases
+module _ (input room : List ℕ) where
+  pub report-short : length room < length (printed input) → (reportAnswer input (length room) ≡ refused 13 []) × (reportRoom input room ≡ room)
+  unfolding reportAnswer reportRoom
+  report-short h = let e = lt-leb (length (printed input)) (length room) h in (rw e, rw e)
+
+  pub report-accepted : length (printed input) ≤ length room
+      → (reportAnswer input (length room) ≡ accepted (length (printed input) ∷ [])) × (reportRoom input room ≡ printed input ++ drop (length (printed input)) room)
+  unfolding reportAnswer reportRoom
+  report-accepted h = let e = le-leb (length (printed input)) (length room) h in (rw e, rw e)
