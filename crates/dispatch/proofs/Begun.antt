@@ -1,7 +1,7 @@
 -- A run from the fresh words of an accepted table: it is made up to the clock's end, and leaves the words of the state after so many ticks.
 use mathlib.Core.Bool.{true}
 use mathlib.Core.List.{List, [], append-nil}
-use mathlib.Core.Path.{_≡_, sym, ap, _∙_}
+use mathlib.Core.Path.{_≡_, ap, _∙_}
 use Prim.Native.Nat.{ℕ, _≤_}
 use native.Mathlib.Omega.{arith}
 use lib.ListN.{getD, replicate, length-replicate}

@@ -1,23 +1,22 @@
 -- Whether words are a well-formed state: one law for each way out of the code, and what well-formed words give to the run.
-use mathlib.Core.Bool.{Bool, true, false}
+use mathlib.Core.Bool.{true, false}
 use mathlib.Core.List.{List, [], _∷_, _++_}
-use mathlib.Core.Path.{_≡_, refl, sym, ap, _∙_}
+use mathlib.Core.Path.{_≡_, sym, _∙_}
 use Prim.Native.Nat.{ℕ, _+_, _*_, _≤_, _<_}
 use native.Mathlib.Omega.{arith}
 use lib.Dec.{leb, eqb}
 use lib.ListN.{length, getD, drop}
-use borrow.Author.Tests.{le-leb, lt-leb, eq-eqb, ne-eqb, eqb-true, leb-true}
-use Rattle.law.specs.Sums.{both, every}
-use Rattle.law.specs.Refusal.{Answer, accepted, refused, within}
+use borrow.Author.Tests.{le-leb, lt-leb, eq-eqb, ne-eqb, eqb-true}
+use Rattle.law.specs.Sums.{every}
+use Rattle.law.specs.Refusal.{accepted, refused, within}
 use Rattle.law.specs.Table.{faulty, tableOf, checked}
 use Rattle.law.specs.Tick.{noRow, run, fresh, clockEnd}
 use Rattle.law.specs.State.{tasksOf, tableWell, rowWell, stateWell, stateOf, laid, savedWell, runAnswer, runWords, countsOf, countsAnswer, countsRoom, freshAnswer, freshWords}
-use Rattle.law.specs.Sound.{SoundState}
 use Rattle.law.proofs.Tests.{both-left, both-right}
-use Rattle.law.proofs.Question.{within-low, within-high}
+use Rattle.law.proofs.Question.{within-high}
 use Rattle.law.proofs.Ticks.{tasks-length, state-facts}
 use Rattle.law.proofs.Laid.{saved-laid}
-use Rattle.rows.specs.Said.{Sized, Laid, Held}
+use Rattle.rows.specs.Said.{Sized, Held}
 use Rattle.rows.proofs.Words.{rows-are}
 use Rattle.tick.proofs.Chain.{time-word, idle-word}
 

@@ -1,6 +1,6 @@
 -- The bits of a number that is put together bit by bit: bit a is what the test says of a, and there is none from n up.
 use mathlib.Core.Bool.{Bool, true, false}
-use mathlib.Core.Path.{_≡_, refl, sym, ap, _∙_}
+use mathlib.Core.Path.{_≡_, sym, ap, _∙_}
 use Prim.Native.Nat.{ℕ, zero, suc, _+_, _-_, _*_, _/_, _%_, _^_, _≤_, _<_}
 use native.Mathlib.Decide.{decLt}
 use native.Mathlib.Nat.{add-comm, add-mul-div-right, add-mul-mod-self-right, mod-eq-of-lt, mul-assoc, pow-suc, one-mul, zero-mul}

@@ -1,6 +1,6 @@
 -- The quotient rounded up, by its two bounds: x ≤ ceil x b * b < x + b, and no other number has both.
-use mathlib.Core.Path.{_≡_, ap}
-use Prim.Native.Nat.{ℕ, zero, suc, _+_, _-_, _*_, _/_, _%_, _≤_, _<_}
+use mathlib.Core.Path.{_≡_}
+use Prim.Native.Nat.{ℕ, zero, suc, _+_, _-_, _*_, _/_, _≤_, _<_}
 use native.Mathlib.Decide.{decLe}
 use native.Mathlib.Nat.{div-add-mod', mod-lt, add-mul, suc-mul, mul-le-mul-right, le-antisymm}
 use native.Mathlib.Omega.{arith}

@@ -2,11 +2,11 @@
 use mathlib.Core.List.{List, [], _∷_, map}
 use mathlib.Core.Path.{_≡_, refl}
 use Prim.Native.Nat.{ℕ}
-use Rattle.law.specs.Sums.{ceil, bitsTo, firstFrom, among, mapFrom, sum}
-use Rattle.law.specs.Pattern.{mandatory, count, word}
+use Rattle.law.specs.Sums.{ceil, firstFrom, among, mapFrom, sum}
+use Rattle.law.specs.Pattern.{mandatory, count}
 use Rattle.law.specs.Table.{Task, kindOf, countOf}
-use Rattle.law.specs.Verdict.{demand, load, fitsAt, response, fits, misfit}
-use Rattle.law.specs.Tick.{Row, Tally, fresh, release, nextPlace, choose, outcome, advance, shifted, marks, settled, releaseAll, advanceAll, finish, begin, tick, run}
+use Rattle.law.specs.Verdict.{demand, load, fitsAt, response}
+use Rattle.law.specs.Tick.{Row, fresh, release, nextPlace, choose, outcome, advance, shifted, marks, settled, releaseAll, advanceAll, finish, begin, tick, run}
 use Rattle.law.specs.Promise.{after, during, settling, took}
 
 p5 : List Task

@@ -1,17 +1,17 @@
 -- A state laid out as words: each row stands at its place, a row stored there is the state with that row, and well-formed words are the
 -- words of the state that they say.
-use mathlib.Core.Bool.{Bool, true, false}
+use mathlib.Core.Bool.{Bool, true}
 use mathlib.Core.List.{List, [], _∷_, _++_, append-assoc}
 use mathlib.Core.Path.{_≡_, refl, sym, ap, _∙_}
 use Prim.Native.Nat.{ℕ, zero, suc, _+_, _-_, _*_, _/_, _%_, _≤_, _<_}
 use native.Mathlib.Decide.{decLt}
-use native.Mathlib.Nat.{add-suc, add-zero, suc-mul, zero-mul, zero-add, div-add-mod', mod-lt, le-refl}
+use native.Mathlib.Nat.{add-suc, add-zero, suc-mul}
 use native.Mathlib.Omega.{arith}
-use lib.Dec.{leb, eqb}
+use lib.Dec.{eqb}
 use lib.ListN.{length, getD, set, take, drop, replicate, length-append, length-replicate, length-set, length-drop, getD-replicate, replicate-append-replicate, List·getD-append}
 use lib.Seq.{sets, sets-eq, set-getD, getD-set-same, getD-set-other, getD-append-add, getD-drop, ext-getD, take-append-add, drop-append-add}
 use borrow.Author.Tests.{eqb-true}
-use Rattle.law.specs.Sums.{bit, both, every, build}
+use Rattle.law.specs.Sums.{every, build}
 use Rattle.law.specs.Table.{taskOf}
 use Rattle.law.specs.Tick.{Row, State, noRow}
 use Rattle.law.specs.State.{rowOf, rowAt, stateOf, wordsOf, rowsLaid, laid, setsFrom, withRow}

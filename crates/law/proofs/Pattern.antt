@@ -1,6 +1,6 @@
 -- The even pattern keeps the laws of a pattern, and what follows from these laws for any pattern.
 use mathlib.Core.Bool.{Bool, true, false}
-use mathlib.Core.Path.{_≡_, refl, sym, ap, _∙_}
+use mathlib.Core.Path.{_≡_, sym, ap, _∙_}
 use Prim.Native.Nat.{ℕ, zero, suc, _+_, _*_, _/_, _%_, _≤_, _<_}
 use native.Mathlib.Decide.{decLt}
 use native.Mathlib.Nat.{div-eq-of-lt-le, lt-div-mul-add, add-mul, suc-mul, add-suc, suc-add, add-zero, zero-add, zero-mul, mul-comm, mod-add-div'}

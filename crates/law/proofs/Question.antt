@@ -2,12 +2,12 @@
 use mathlib.Core.Bool.{Bool, true, false}
 use mathlib.Core.List.{List, [], _∷_}
 use mathlib.Core.Path.{_≡_, refl, sym, ap, _∙_}
-use Prim.Native.Nat.{ℕ, zero, suc, _/_, _%_, _^_, _≤_, _<_}
+use Prim.Native.Nat.{ℕ, _/_, _%_, _^_, _≤_}
 use native.Mathlib.Nat.{mod-lt}
 use native.Mathlib.Omega.{arith}
 use lib.Dec.{eqb, leb}
 use borrow.Author.Tests.{leb-true, le-leb}
-use Rattle.law.specs.Sums.{bit, both}
+use Rattle.law.specs.Sums.{bit}
 use Rattle.law.specs.Refusal.{Answer, accepted, refused, within}
 use Rattle.law.specs.Pattern.{InRange, mandatory, word, pairChecked}
 use Rattle.law.proofs.Bits.{bits-at}

@@ -7,7 +7,7 @@ use native.Mathlib.Omega.{arith}
 use lib.Dec.{leb, ltb, eqb}
 use lib.ListN.{length, getD, take, drop, length-append}
 use borrow.Author.Tests.{leb-true, le-leb, lt-leb}
-use Rattle.law.specs.Refusal.{Answer, accepted, refused, orRefused, after, head}
+use Rattle.law.specs.Refusal.{Answer, accepted, refused, orRefused, after, head, valueOf}
 use Rattle.law.specs.Table.{Task, row, tableOf, rowFault, faulty, rowsChecked}
 use Rattle.law.specs.Tick.{State, noRow, fresh, run}
 use Rattle.law.specs.State.{countsOf}
@@ -206,3 +206,10 @@ module _ (input room : List ℕ) where
       → (reportAnswer input (length room) ≡ accepted (length (printed input) ∷ [])) × (reportRoom input room ≡ printed input ++ drop (length (printed input)) room)
   unfolding reportAnswer reportRoom
   report-accepted h = let e = le-leb (length (printed input)) (length room) h in (rw e, rw e)
+
+-- so the program's own room is never too short
+pub report-fits : (input : List ℕ) (m : ℕ) → accepted (m ∷ []) ≡ reportAnswer input 5120 → m ≤ 5120
+unfolding reportAnswer
+report-fits input m e =
+    let f : reportAnswer input 5120 ≡ accepted (length (printed input) ∷ []) = rw (le-leb (length (printed input)) 5120 (printed-most input)) in
+    omega (arith, ap valueOf (e ∙ f), printed-most input)

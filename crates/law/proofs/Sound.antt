@@ -1,22 +1,19 @@
 -- A well-formed state stays one: what the tests say as facts, and what releases and work do to the facts of a row.
-use mathlib.Core.Bool.{Bool, true, false, not}
-use mathlib.Core.List.{List, [], _∷_, map}
+use mathlib.Core.Bool.{Bool, true, false}
 use mathlib.Core.Logic.{_⊎_, inl, inr, ⊎-elim}
-use mathlib.Core.Path.{_≡_, refl, sym, ap, _∙_}
-use Prim.Native.Nat.{ℕ, zero, suc, _+_, _-_, _*_, _^_, _≤_, _<_}
+use mathlib.Core.Path.{_≡_, refl, ap}
+use Prim.Native.Nat.{ℕ, zero, suc, _+_, _-_, _^_, _≤_, _<_}
 use native.Mathlib.Decide.{ℕ-discrete}
-use native.Mathlib.Nat.{add-zero}
 use native.Mathlib.Omega.{arith}
 use lib.Dec.{leb, ltb, eqb}
-use lib.ListN.{length, getD}
 use borrow.Author.Tests.{leb-true, ltb-true, ltb-false, eqb-true, eqb-false, le-leb, lt-ltb, le-ltb, eq-eqb, ne-eqb}
-use Rattle.law.specs.Sums.{bit, both, pick, every}
+use Rattle.law.specs.Sums.{bit, both, pick}
 use Rattle.law.specs.Refusal.{within}
 use Rattle.law.specs.Table.{Task, Ranged, kindOf}
-use Rattle.law.specs.Tick.{Core, Tally, Row, State, Outcome, nothing, met, missed, live, due, nextPlace, release, releaseRow, outcome, settles, advance, advanceRow, unlessSettled, workAfter, settled, amended, shifted, marks, countedRelease}
+use Rattle.law.specs.Tick.{Core, Tally, Row, nothing, met, missed, live, due, nextPlace, release, releaseRow, outcome, advance, advanceRow, workAfter, settled, shifted, marks}
 use Rattle.law.specs.State.{settledCounts, jobWell, coreWell, tallyWell, rowWell}
 use Rattle.law.specs.Sound.{Resting, Running, SoundCore, SoundTally, SoundRow}
-use Rattle.law.proofs.Tests.{both-left, both-right, both-true, bit-most, Known, known, passes, fails}
+use Rattle.law.proofs.Tests.{both-left, both-right, both-true, bit-most, known, passes, fails}
 use Rattle.law.proofs.Question.{within-low, within-high, within-is}
 use Rattle.law.proofs.Window.{shifted-low}
 

@@ -1,17 +1,17 @@
 -- The verdict: loads grow with t, so a search may leap from t to the load at t; loads stay far below 64 bits; and the verdict by its cases.
 use mathlib.Core.Bool.{Bool, true, false, not}
 use mathlib.Core.List.{List, [], _∷_, _++_}
-use mathlib.Core.Path.{_≡_, refl, sym, ap, _∙_}
+use mathlib.Core.Path.{_≡_, refl, ap}
 use Prim.Native.Nat.{ℕ, zero, suc, _+_, _-_, _*_, _/_, _%_, _≤_, _<_}
 use native.Mathlib.Decide.{decLt, ℕ-discrete}
-use native.Mathlib.Nat.{mul-le-mul-left, mul-le-mul, add-suc, suc-mul, mul-one}
+use native.Mathlib.Nat.{mul-le-mul-left, mul-le-mul, mul-one}
 use native.Mathlib.Omega.{arith}
 use lib.Dec.{leb, ltb, eqb}
-use lib.ListN.{length, getD, drop}
-use borrow.Author.Tests.{le-leb, lt-leb, leb-true, leb-false, eq-eqb, ne-eqb, eqb-false}
-use Rattle.law.specs.Sums.{bit, ceil, sum, firstFrom, first}
-use Rattle.law.specs.Refusal.{Answer, accepted, refused, orRefused, after, lent}
-use Rattle.law.specs.Pattern.{IsPattern, mandatory, count}
+use lib.ListN.{length, drop}
+use borrow.Author.Tests.{le-leb, lt-leb, leb-true, eq-eqb, ne-eqb, eqb-false}
+use Rattle.law.specs.Sums.{bit, ceil}
+use Rattle.law.specs.Refusal.{Answer, accepted, refused, orRefused, after}
+use Rattle.law.specs.Pattern.{IsPattern, mandatory}
 use Rattle.law.specs.Table.{Task, row, width, kindOf, countOf, Ranged, WellFormed, tableOf, repeated, faultOf, rowFault, faulty, rowsChecked, checked}
 use Rattle.law.specs.Verdict.{demand, load, fitsAt, response, fits, misfit, admitted, responses, verdict, verdictRoom}
 use Rattle.law.proofs.Ceil.{ceil-mono, ceil-least}

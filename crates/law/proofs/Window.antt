@@ -1,8 +1,8 @@
 -- A window as a machine word: its marks are the word's set bits, and a shift with a cut is the law's.
-use mathlib.Core.Bool.{Bool, true, false}
+use mathlib.Core.Bool.{Bool}
 use mathlib.Core.Path.{_≡_, refl, sym, ap, _∙_}
 use Prim.Native.Nat.{ℕ, zero, suc, _+_, _-_, _*_, _/_, _%_, _^_, _≤_, _<_}
-use native.Mathlib.Nat.{add-comm, mul-comm, mod-lt, mod-eq-of-lt, mod-add-mod, mul-div-cancel, mul-mod-left, zero-add, add-zero}
+use native.Mathlib.Nat.{mul-comm, mod-lt, mod-eq-of-lt, mod-add-mod, mul-div-cancel, mul-mod-left, zero-add}
 use native.Mathlib.Numerals.{one-add}
 use native.Mathlib.Omega.{arith}
 use lib.Arith.{mod-mul, lt-one}

@@ -1,25 +1,25 @@
 -- Demand 3 over the functions' answers: the theory's promises, carried to what the functions hand back by `Runs`.
-use mathlib.Core.Bool.{Bool, true, false}
-use mathlib.Core.List.{List, [], _∷_, _++_}
-use mathlib.Core.Path.{_≡_, refl, sym, ap, _∙_, subst}
-use Prim.Native.Nat.{ℕ, _+_, _-_, _*_, _≤_, _<_}
+use mathlib.Core.Bool.{true}
+use mathlib.Core.List.{List, [], _∷_}
+use mathlib.Core.Path.{_≡_, refl, sym, ap, _∙_}
+use Prim.Native.Nat.{ℕ, _+_, _-_, _≤_, _<_}
 use native.Mathlib.Nat.{mul-le-mul-right}
 use native.Mathlib.Omega.{arith}
-use lib.Dec.{leb, eqb}
+use lib.Dec.{leb}
 use lib.ListN.{length, getD, drop, List·getD-append}
 use borrow.Author.Tests.{leb-true, leb-false, eqb-true}
-use Rattle.law.specs.Sums.{among, build}
+use Rattle.law.specs.Sums.{among}
 use Rattle.law.specs.Refusal.{accepted, refused}
-use Rattle.law.specs.Table.{Task, tableOf, row, Ranged, WellFormed}
-use Rattle.law.specs.Verdict.{response, misfit, admitted, responses, verdict, verdictRoom}
-use Rattle.law.specs.Tick.{State, noRow, marks, missed, clockEnd}
-use Rattle.law.specs.Promise.{after, settling, took, inTime, Kept, MissedFirst, Seen}
-use Rattle.law.proofs.Table.{Accepted, checked-accepted}
+use Rattle.law.specs.Table.{Task, tableOf, row, WellFormed}
+use Rattle.law.specs.Verdict.{response, misfit, admitted, responses, verdict}
+use Rattle.law.specs.Tick.{State, noRow, marks, clockEnd}
+use Rattle.law.specs.Promise.{settling, took, inTime, Kept, MissedFirst, Seen}
+use Rattle.law.proofs.Table.{checked-accepted}
 use Rattle.law.proofs.First.{build-length, build-at}
 use Rattle.law.proofs.Sums.{among-same}
 use Rattle.law.proofs.Verdict.{pattern-of, AdmittedBy, admitted-says, LateBy, late-says, verdict-admitted}
 use Rattle.theory.proofs.Demand.{kept, missed-first, seen}
-use Rattle.promise.specs.Promised.{begun, seenAt, reported, rowsIn, rowIn, tookTicks, deadlineOf, Promised, TurnedDown}
+use Rattle.promise.specs.Promised.{reported, rowsIn, rowIn, tookTicks, deadlineOf, Promised, TurnedDown}
 use Rattle.promise.proofs.Runs.{runs, seen-is, took-is}
 
 admitted-all : (tasks : List Task) → admitted tasks ≡ true → misfit tasks ≡ length tasks

@@ -1,7 +1,6 @@
 -- P1 to P12: every case of the table gives what document 01 says, all by one computation.
-use mathlib.Core.List.{List, [], _∷_, map}
+use mathlib.Core.List.{map}
 use mathlib.Core.Path.{_≡_, refl}
-use Prim.Native.Nat.{ℕ}
 use Rattle.law.specs.Sums.{ceil, sum, firstFrom, build, mapFrom, among}
 use Rattle.law.specs.Refusal.{within}
 use Rattle.law.specs.Pattern.{mandatory, count}

@@ -1,11 +1,11 @@
 -- Programs that the definitions shut out, where no edit of the code could show it: P9 is never idle, however long it runs; and a run that works
 -- through the first tick and only moves the clock after it is not the law's run.
-use mathlib.Core.List.{List, [], _∷_}
-use mathlib.Core.Path.{_≡_, refl, sym, ap, _∙_}
+use mathlib.Core.List.{[], _∷_}
+use mathlib.Core.Path.{_≡_, refl, ap, _∙_}
 use Prim.Native.Nat.{ℕ, zero, suc, _+_}
 use native.Mathlib.Numerals.{add-one}
 use native.Mathlib.Omega.{arith}
-use lib.ListN.{length, getD}
+use lib.ListN.{getD}
 use Rattle.law.specs.Sums.{ceil, firstFrom, mapFrom, among}
 use Rattle.law.specs.Pattern.{mandatory}
 use Rattle.law.specs.Table.{Task, kindOf}

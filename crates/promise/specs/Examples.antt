@@ -1,5 +1,4 @@
 -- Document 01, "Examples on each side of a limit": P1 to P12 as one table, each case with what the definitions must give.
-use mathlib.Core.Bool.{Bool, true, false}
 use mathlib.Core.List.{List, [], _∷_, _++_}
 use Prim.Native.Nat.{ℕ, zero, suc, _-_}
 use lib.ListN.{length, take, replicate}

@@ -1,15 +1,14 @@
 -- What a tick does to one row, case by case, as the code tells the cases apart.
-use mathlib.Core.Bool.{Bool, true, false}
+use mathlib.Core.Bool.{Bool}
 use mathlib.Core.Logic.{_⊎_, ⊎-elim}
-use mathlib.Core.Path.{_≡_, refl, sym, ap, _∙_}
-use Prim.Native.Nat.{ℕ, _+_, _-_, _/_, _%_, _^_, _≤_, _<_}
+use mathlib.Core.Path.{_≡_, sym, ap, _∙_}
+use Prim.Native.Nat.{ℕ, _-_, _/_, _%_, _^_, _<_}
 use native.Mathlib.Nat.{add-zero, mod-eq-of-lt}
 use native.Mathlib.Omega.{arith}
 use lib.Dec.{eqb}
 use Rattle.law.specs.Sums.{bit}
 use Rattle.law.specs.Pattern.{InRange, word, mandatory}
-use Rattle.law.specs.Table.{Task, kindOf}
-use Rattle.law.specs.Tick.{Core, Tally, Row, nothing, met, missed, workAfter, outcome, advance, advanceRow, release, releaseRow, nextPlace}
+use Rattle.law.specs.Tick.{Core, Row, workAfter, advance, advanceRow, release, releaseRow}
 use Rattle.law.specs.Sound.{Resting, Running, SoundCore}
 use Rattle.law.proofs.Question.{word-tells}
 use Rattle.law.proofs.Sound.{outcome-none, outcome-met, outcome-missed, outcome-on, live-yes, live-no, due-no}

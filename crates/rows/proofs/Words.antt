@@ -1,19 +1,17 @@
 -- The words of a state in the code's hands: their number, a row read, a row put, and the same words again after each.
 use mathlib.Core.List.{List}
-use mathlib.Core.Path.{_≡_, refl, sym, ap, _∙_, subst}
+use mathlib.Core.Path.{_≡_, sym, ap, _∙_, subst}
 use Prim.Native.Nat.{ℕ, _+_, _*_, _≤_, _<_}
 use native.Mathlib.Omega.{arith}
-use lib.ListN.{length, getD, set, length-set}
+use lib.ListN.{length, getD, set}
 use lib.Seq.{set-getD}
-use Rattle.law.specs.Sums.{build}
 use Rattle.law.specs.Table.{row}
 use Rattle.law.specs.Tick.{Row, State, noRow}
 use Rattle.law.specs.State.{rowAt, stateOf, wordsOf, laid, setsFrom, withRow, tasksOf}
 use Rattle.law.proofs.Ticks.{task-at}
-use Rattle.law.specs.Sound.{SoundState}
 use Rattle.law.proofs.First.{build-length, build-at}
 use Rattle.law.proofs.Laid.{laid-length, laid-put, laid-put-word, laid-going, state-laid, going}
-use Rattle.rows.specs.Said.{Sized, Laid, Held}
+use Rattle.rows.specs.Said.{Sized, Laid}
 
 pub words-long : {words : List ℕ} → Laid words → length words ≡ 579
 words-long {words} l = ap length (l .is) ∙ laid-length (stateOf words) (l .few)

@@ -5,6 +5,7 @@ ghost use Rattle.law.specs.Pattern.{question, pairWord};
 ghost use Rattle.law.specs.Table.{checked};
 ghost use Rattle.law.specs.Verdict.{verdict as verdictLaw, verdictRoom};
 ghost use Rattle.law.specs.Reading.{readAnswer, readRoom, writeAnswer, writeRoom};
+ghost use Rattle.law.specs.Report.{reportAnswer, reportRoom};
 ghost use Rattle.law.specs.State.{freshAnswer, freshWords, runAnswer, runWords, savedAnswer, countsAnswer, countsRoom};
 ghost use Rattle.refusal.specs.Shown.{shown};
 ghost use Rattle.dispatch.specs.Shown.{ranShown};
@@ -14,6 +15,7 @@ use book::Word;
 use dispatch::run::Ran;
 use dispatch::start::Started;
 use refusal::Refusal;
+use report::Printed;
 use table::Checked;
 use text::read::Reading;
 use text::write::Written;
@@ -194,4 +196,20 @@ pub extern "C" fn gp_counts(state: &[u64], row: u32, room: &mut [u64]) -> Answer
     ensures room { λ a. ⌜ now (room .exit) ≡ countsRoom (now (state .entry)) row (now (room .entry)) ⌝ }
 {
     ran(dispatch::counts::counts_words(state, row, room))
+}
+
+// The printing program as a function: the length of what it prints for an input, and the bytes in the first bytes of the room. A room of 5,120
+// bytes is always long enough.
+#[no_mangle]
+pub extern "C" fn gp_report(input: &[u8], room: &mut [u8]) -> Answer
+    ensures answer { λ a. ⌜ a ≡ numbered (reportAnswer (now (input .entry)) (length (now (room .entry)))) ⌝ }
+    ensures room { λ a. ⌜ now (room .exit) ≡ reportRoom (now (input .entry)) (now (room .entry)) ⌝ }
+{
+    match report::report(input, room) {
+        Printed::Length(length) => Answer {
+            refusal: 0,
+            value: length as u64,
+        },
+        Printed::Refused(r) => refused(r),
+    }
 }

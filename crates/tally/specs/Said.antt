@@ -1,5 +1,5 @@
 -- How a struct `Tally` is read as the law's, and what the settling routine asks of one.
-use Prim.Native.Nat.{ℕ, _+_, _<_, _≤_, _^_}
+use Prim.Native.Nat.{ℕ, _+_, _<_, _^_}
 use Rattle.law.specs.Tick as law
 use Rattle.tally.specs.declared.Tally.{Tally}
 

@@ -8,13 +8,12 @@ use native.Mathlib.Nat.{mod-lt, mod-self, mod-eq-of-lt, suc-mod, zero-mod}
 use native.Mathlib.Omega.{arith}
 use borrow.Author.Tests.{eq-eqb, ne-eqb}
 use Rattle.law.specs.Sums.{bit, ceil}
-use Rattle.law.specs.Pattern.{IsPattern}
 use Rattle.law.specs.Table.{Task, Ranged, kindOf, countOf}
 use Rattle.law.specs.Verdict.{demand}
 use Rattle.law.specs.Tick.{Core, freshCore, nextPlace, release, advance, urgent}
 use Rattle.law.proofs.Ceil.{ceil-high, ceil-only, ceil-zero, ceil-add}
 use Rattle.law.proofs.Verdict.{pattern-of}
-use Rattle.law.proofs.Pattern.{even, counted-mono, kind-place}
+use Rattle.law.proofs.Pattern.{counted-mono, kind-place}
 use Rattle.law.proofs.Tests.{passes, fails, known}
 use Rattle.theory.proofs.Rows.{begun, release-due, release-none, owed, owed-urgent, owed-none, owed-most, urgent-is, urgent-kind}
 

@@ -2,17 +2,17 @@
 use mathlib.Core.Bool.{Bool}
 use mathlib.Core.List.{List}
 use mathlib.Core.Path.{_≡_, refl, sym, ap, _∙_, subst}
-use Prim.Native.Nat.{ℕ, zero, suc, _+_, _≤_, _<_}
+use Prim.Native.Nat.{ℕ, _+_, _<_}
 use native.Mathlib.Omega.{arith}
 use lib.Dec.{eqb}
 use lib.ListN.{length, getD, set}
 use Rattle.law.specs.Sums.{bit}
 use Rattle.law.specs.Table.{Task, row}
 use Rattle.law.specs.Pattern.{word}
-use Rattle.law.specs.Tick.{Row, State, noRow, coreAt, choose, fullLength, begin, finish, tick, run, clockEnd}
+use Rattle.law.specs.Tick.{Row, State, choose, fullLength, begin, finish, tick, run, clockEnd}
 use Rattle.law.specs.State.{stateOf, laid, tasksOf}
 use Rattle.law.specs.Sound.{SoundState}
-use Rattle.law.proofs.Ticks.{begun-length, finished-length, begin-sound, tick-sound, tick-length, run-sound, run-length, run-time, run-tasks, task-at, tasks-length}
+use Rattle.law.proofs.Ticks.{finished-length, begin-sound, task-at, tasks-length}
 use Rattle.rows.specs.Said.{Laid, Held, Fetched, advancedState, countedTick}
 use Rattle.rows.proofs.Words.{says, laid-as}
 

@@ -1,6 +1,6 @@
 -- A loop that takes the rows one by one: the rows passed are mapped, the others as they were.
 use mathlib.Core.List.{List}
-use mathlib.Core.Path.{_≡_, refl, sym, ap, _∙_, subst}
+use mathlib.Core.Path.{_≡_, sym, ap, _∙_}
 use Prim.Native.Nat.{ℕ, _+_, _≤_, _<_}
 use native.Mathlib.Nat.{zero-add}
 use native.Mathlib.Numerals.{add-one}
@@ -11,7 +11,7 @@ use Rattle.law.specs.Tick.{Row, State, noRow}
 use Rattle.law.specs.State.{stateOf, laid, withRow}
 use Rattle.law.proofs.Sums.{mapTo, mapTo-none, mapTo-length, mapTo-next, mapTo-step, mapTo-all}
 use Rattle.rows.specs.Said.{Laid}
-use Rattle.rows.proofs.Words.{words-long, says, laid-as}
+use Rattle.rows.proofs.Words.{says, laid-as}
 
 abbrev pub withRows : State → List Row → State
 withRows s rows = record { time = s .time; idle = s .idle; rows = rows }

@@ -1,15 +1,15 @@
 -- `book::ask` meets its contract: the pair is refused as its word is, and the bit at the job's place is the job's kind.
 use mathlib.Core.Bool.{Bool, true, false}
 use mathlib.Core.List.{[], _∷_}
-use mathlib.Core.Path.{_≡_, refl, ap, sym, _∙_}
+use mathlib.Core.Path.{_≡_, ap, sym, _∙_}
 use Prim.Native.Nat.{ℕ, _/_, _%_, _^_}
 use native.Mathlib.Nat.{mod-lt}
 use native.Mathlib.Omega.{arith}
 use lib.Dec.{eqb}
 use borrow.Author.Needs.{needs}
 use Rattle.law.specs.Sums.{bit}
-use Rattle.law.specs.Refusal.{Answer, accepted}
-use Rattle.law.specs.Pattern.{InRange, mandatory, word, pairWord, question}
+use Rattle.law.specs.Refusal.{accepted}
+use Rattle.law.specs.Pattern.{InRange, word, pairWord, question}
 use Rattle.law.proofs.Question.{word-tells, pair-refused, pair-accepted, pair-is}
 use Rattle.book.specs.Shown.{wordShown}
 use Rattle.book.proofs.ask.Statement.{statement}

@@ -1,6 +1,6 @@
 -- `book::word_in` meets its contract: the place is the pair's place, and stays in the book.
 use mathlib.Core.List.{List}
-use mathlib.Core.Path.{_≡_, ap, _∙_}
+use mathlib.Core.Path.{ap, _∙_}
 use Prim.Native.Nat.{ℕ, _+_, _*_, _-_, _/_, _≤_}
 use native.Mathlib.Nat.{mul-le-mul}
 use native.Mathlib.Omega.{arith}

@@ -1,5 +1,5 @@
 -- `book::word_of` meets its contract: the tests are those of `pairChecked`, in its order.
-use mathlib.Core.Bool.{true, false}
+use mathlib.Core.Bool.{true}
 use mathlib.Core.List.{[], _∷_}
 use mathlib.Core.Path.{_≡_, ap, sym, _∙_}
 use Prim.Native.Nat.{ℕ}

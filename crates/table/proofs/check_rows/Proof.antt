@@ -1,8 +1,8 @@
 -- `table::check_rows` meets its contract: the loop stands at the first row with a fault, or has passed only rows without one.
 use mathlib.Core.Bool.{Bool, true, false, not}
 use mathlib.Core.List.{List, [], _∷_}
-use mathlib.Core.Path.{_≡_, refl, sym, ap, _∙_}
-use Prim.Native.Nat.{ℕ, _+_, _-_, _/_, _≤_, _<_}
+use mathlib.Core.Path.{_≡_, sym, ap, _∙_}
+use Prim.Native.Nat.{ℕ, _-_, _/_}
 use native.Mathlib.Omega.{arith}
 use lib.Dec.{eqb}
 use lib.ListN.{length}
@@ -10,7 +10,7 @@ use borrow.Author.Needs.{needs}
 use borrow.Author.Tests.{eq-eqb, ne-eqb}
 use Rattle.law.specs.Sums.{first}
 use Rattle.law.specs.Refusal.{accepted, refused}
-use Rattle.law.specs.Table.{Task, taskAt, tableOf, row, repeated, faultOf, rowFault, faulty}
+use Rattle.law.specs.Table.{Task, tableOf, row, faultOf, rowFault, faulty}
 use Rattle.law.proofs.First.{Searched, searched-start, searched-hit, searched-next, searched-end}
 use Rattle.law.proofs.Table.{table-length, table-row, fault-range, rows-refused, rows-accepted}
 use Rattle.table.proofs.check_rows.Statement.{statement}

@@ -1,18 +1,16 @@
 -- `table::is_repeated` meets its contract: the loop stands at the first earlier row with the id, or has passed only other ids.
-use mathlib.Core.Bool.{Bool, true, false}
+use mathlib.Core.Bool.{Bool}
 use mathlib.Core.List.{List}
-use mathlib.Core.Path.{_≡_, refl, sym, ap, _∙_}
-use Prim.Native.Nat.{ℕ, suc, _+_, _-_, _/_, _≤_, _<_}
-use native.Mathlib.Numerals.{add-one}
+use mathlib.Core.Path.{_≡_, sym, ap, _∙_}
+use Prim.Native.Nat.{ℕ, _-_, _/_, _<_}
 use native.Mathlib.Omega.{arith}
-use lib.Dec.{eqb, ltb}
+use lib.Dec.{eqb}
 use lib.ListN.{length}
 use borrow.Author.Tests.{eq-eqb, ne-eqb, lt-ltb, le-ltb}
 use Rattle.law.specs.Sums.{first}
 use Rattle.law.specs.Table.{Task, taskAt, tableOf, row, repeated}
 use Rattle.law.proofs.First.{Searched, searched-start, searched-hit, searched-next, searched-end}
 use Rattle.law.proofs.Table.{table-row}
-use Rattle.table.specs.Said.{taskSaid}
 use Rattle.table.proofs.is_repeated.Statement.{statement}
 use Rattle.table.proofs.is_repeated.Tie as tie
 

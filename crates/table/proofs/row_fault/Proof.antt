@@ -1,5 +1,5 @@
 -- `table::row_fault` meets its contract: each return stands behind the tests that `faultOf` makes, in its order.
-use mathlib.Core.Bool.{true, false}
+use mathlib.Core.Bool.{true}
 use mathlib.Core.Path.{_≡_, sym, _∙_}
 use borrow.Author.Needs.{needs}
 use borrow.Author.Tests.{not-true, not-false}

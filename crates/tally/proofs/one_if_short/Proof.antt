@@ -1,10 +1,6 @@
 -- `tally::one_if_short` meets its contract: the test is the law's.
-use mathlib.Core.Path.{ap, sym, _∙_}
-use Prim.Native.Nat.{ℕ}
-use lib.Dec.{ltb}
 use native.Mathlib.Omega.{arith}
 use borrow.Author.Tests.{lt-ltb, le-ltb}
-use Rattle.law.specs.Sums.{bit}
 use borrow.Author.Needs.{needs}
 use Rattle.tally.proofs.one_if_short.Statement.{statement}
 use Rattle.tally.proofs.one_if_short.Tie as tie

@@ -1,14 +1,11 @@
 -- `tick::advance_all` meets its contract: the rows passed are advanced.
-use mathlib.Core.List.{List}
-use mathlib.Core.Path.{_≡_, refl, sym, ap, _∙_, subst}
-use Prim.Native.Nat.{ℕ, _+_, _-_, _≤_, _<_}
+use mathlib.Core.Path.{sym, ap, _∙_, subst}
+use Prim.Native.Nat.{_-_}
 use native.Mathlib.Omega.{arith}
 use lib.Dec.{eqb}
-use lib.ListN.{length, getD}
-use Rattle.law.specs.Tick.{Row, noRow, advanceRow, advanceAll}
+use Rattle.law.specs.Tick.{advanceRow, advanceAll}
 use Rattle.law.specs.State.{stateOf}
 use Rattle.law.specs.Sound.{SoundState, SoundRow}
-use Rattle.rows.specs.Said.{Timed}
 use Rattle.rows.proofs.Words.{words-long}
 use Rattle.tick.proofs.Loops.{Mapped, mapped-start, mapped-laid, mapped-rows, mapped-row, mapped-next, mapped-end}
 use Rattle.tick.proofs.advance_all.Statement.{statement}

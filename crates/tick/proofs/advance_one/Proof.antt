@@ -1,6 +1,6 @@
 -- `tick::advance_one` meets its contract: a row without a live job waits on, one whose job keeps work and time goes on, and any other is settled.
 use mathlib.Core.Path.{_≡_, sym, ap, _∙_, subst}
-use Prim.Native.Nat.{ℕ, _-_, _≤_, _<_}
+use Prim.Native.Nat.{ℕ, _-_, _≤_}
 use native.Mathlib.Omega.{arith}
 use lib.ListN.{getD, set}
 use Rattle.law.specs.Sums.{bit}

@@ -1,18 +1,17 @@
 -- `tick::choose` meets its contract: no row passed is urgent, and `optional` is the first live one among them, if any.
 use mathlib.Core.Bool.{Bool, true, false}
 use mathlib.Core.List.{List}
-use mathlib.Core.Path.{_≡_, refl, sym, ap, _∙_}
+use mathlib.Core.Path.{_≡_, sym, ap, _∙_}
 use Prim.Native.Nat.{ℕ, _+_, _-_, _≤_, _<_}
 use native.Mathlib.Decide.{decLt, ℕ-discrete}
 use native.Mathlib.Omega.{arith}
 use lib.Dec.{eqb, ltb}
-use lib.ListN.{length, getD}
+use lib.ListN.{length}
 use borrow.Author.Needs.{needs}
 use borrow.Author.Tests.{eq-eqb, ne-eqb, lt-ltb, le-ltb}
 use Rattle.law.specs.Sums.{both, pick, first}
-use Rattle.law.specs.Tick.{Row, coreAt, noRow, live, urgent, choose}
+use Rattle.law.specs.Tick.{Row, coreAt, live, urgent, choose}
 use Rattle.law.specs.State.{rowOf, stateOf}
-use Rattle.law.proofs.Tests.{Known, known, passes, fails}
 use Rattle.law.proofs.First.{Searched, searched-start, searched-hit, searched-next, searched-end}
 use Rattle.rows.specs.Said.{Laid}
 use Rattle.rows.proofs.Words.{words-long, row-read}

@@ -1,10 +1,8 @@
 -- `tick::count_tick` meets its contract: two words of a state change, and both still fit.
-use mathlib.Core.Path.{_≡_, sym, _∙_}
-use Prim.Native.Nat.{ℕ, _+_}
+use Prim.Native.Nat.{_+_}
 use native.Mathlib.Omega.{arith}
-use lib.ListN.{getD, set, length-set}
+use lib.ListN.{getD, length-set}
 use lib.Seq.{getD-set-other}
-use Rattle.law.specs.State.{stateOf}
 use Rattle.rows.proofs.Words.{words-long}
 use Rattle.tick.proofs.Chain.{time-word, idle-word, counted}
 use borrow.Author.Needs.{needs}

@@ -1,14 +1,12 @@
 -- `tick::release_all` meets its contract: the rows passed have released.
-use mathlib.Core.List.{List}
-use mathlib.Core.Path.{_≡_, refl, sym, ap, _∙_, subst}
-use Prim.Native.Nat.{ℕ, _+_, _-_, _≤_, _<_}
+use mathlib.Core.Path.{sym, ap, _∙_, subst}
+use Prim.Native.Nat.{_-_}
 use native.Mathlib.Omega.{arith}
-use lib.ListN.{length, getD}
 use Rattle.law.specs.Pattern.{word}
-use Rattle.law.specs.Tick.{Row, noRow, fullLength, releaseRow, releaseAll, begin, clockEnd}
+use Rattle.law.specs.Tick.{Row, fullLength, releaseRow, releaseAll, begin}
 use Rattle.law.specs.State.{stateOf}
 use Rattle.law.specs.Sound.{SoundState, SoundRow}
-use Rattle.rows.specs.Said.{Timed, Fetched}
+use Rattle.rows.specs.Said.{Fetched}
 use Rattle.rows.proofs.Words.{words-long}
 use Rattle.tick.proofs.Loops.{Mapped, mapped-start, mapped-laid, mapped-rows, mapped-row, mapped-next, mapped-end}
 use Rattle.tick.proofs.release_all.Statement.{statement}

@@ -1,6 +1,5 @@
 -- `tick::release_one` meets its contract: a row that waits stays as it is; else the row read, released and put back.
 use mathlib.Core.Path.{_≡_, sym, ap, _∙_, subst}
-use Prim.Native.Nat.{ℕ, _<_}
 use native.Mathlib.Omega.{arith}
 use lib.ListN.{getD}
 use Rattle.law.specs.Pattern.{word}

@@ -1,10 +1,9 @@
 -- `tick::settle_one` meets its contract: the row read, advanced and put back.
 use mathlib.Core.Path.{_≡_, sym, ap, _∙_, subst}
-use Prim.Native.Nat.{_<_}
 use native.Mathlib.Omega.{arith}
 use lib.ListN.{getD}
 use Rattle.law.specs.Tick.{Row, noRow, advanceRow}
-use Rattle.law.specs.State.{stateOf, setsFrom, wordsOf, laid, withRow}
+use Rattle.law.specs.State.{stateOf, laid, withRow}
 use Rattle.rows.specs.Said.{rowSaid, Timed}
 use Rattle.rows.proofs.Words.{words-long, row-read, row-put}
 use borrow.Author.Needs.{needs}

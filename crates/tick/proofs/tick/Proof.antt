@@ -1,8 +1,6 @@
 -- `tick::tick` meets its contract: routine by routine, the words are those of the law's halves.
-use mathlib.Core.Path.{sym, _∙_}
-use Prim.Native.Nat.{ℕ, _<_, _≤_}
 use native.Mathlib.Omega.{arith}
-use Rattle.rows.specs.Said.{Laid, Held}
+use Rattle.rows.specs.Said.{Held}
 use Rattle.tick.proofs.Chain.{begun-held, advanced-laid, advanced-time, advanced-idle, ticked}
 use borrow.Author.Needs.{needs}
 use Rattle.tick.proofs.tick.Statement.{statement}

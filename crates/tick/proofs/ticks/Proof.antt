@@ -1,11 +1,10 @@
 -- `tick::ticks` meets its contract: after `done` ticks the words are those of the law's run so far.
 use mathlib.Core.List.{List}
-use mathlib.Core.Path.{_≡_, refl, sym, ap, _∙_, subst}
-use Prim.Native.Nat.{ℕ, suc, _+_, _-_, _≤_, _<_}
+use mathlib.Core.Path.{_≡_, sym, ap, _∙_, subst}
+use Prim.Native.Nat.{ℕ, _+_, _-_, _≤_, _<_}
 use native.Mathlib.Numerals.{add-one}
 use native.Mathlib.Omega.{arith}
-use lib.ListN.{length}
-use Rattle.law.specs.Tick.{Row, State, tick, run, clockEnd}
+use Rattle.law.specs.Tick.{State, tick, run, clockEnd}
 use Rattle.law.specs.State.{stateOf, laid}
 use Rattle.law.specs.Sound.{SoundState}
 use Rattle.law.proofs.Ticks.{run-sound, run-time, run-tasks}

@@ -1,6 +1,6 @@
 -- `verdict::count` meets its contract: the quotient is the law's ceiling, and nothing in it is large.
 use mathlib.Core.Path.{refl}
-use Prim.Native.Nat.{ℕ, _*_, _≤_}
+use Prim.Native.Nat.{_*_, _≤_}
 use native.Mathlib.Nat.{mul-le-mul}
 use native.Mathlib.Omega.{arith}
 use Rattle.law.specs.Sums.{ceil}

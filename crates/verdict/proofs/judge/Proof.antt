@@ -1,12 +1,12 @@
 -- `verdict::judge` meets its contract: each way out is a case of the law's verdict, and only the last one writes.
 use mathlib.Core.List.{List, [], _∷_, _++_}
-use mathlib.Core.Path.{_≡_, refl, sym, ap, _∙_}
-use Prim.Native.Nat.{ℕ, _≤_, _<_}
+use mathlib.Core.Path.{_≡_, sym, ap, _∙_}
+use Prim.Native.Nat.{ℕ}
 use native.Mathlib.Omega.{arith}
 use lib.ListN.{length, take, drop}
 use borrow.Author.Needs.{needs}
 use Rattle.law.specs.Refusal.{accepted, refused}
-use Rattle.law.specs.Table.{tableOf, checked, WellFormed}
+use Rattle.law.specs.Table.{tableOf, checked}
 use Rattle.law.specs.Verdict.{misfit}
 use Rattle.law.proofs.Table.{Accepted, checked-accepted}
 use Rattle.law.proofs.Verdict.{misfit-most, verdict-unchecked, verdict-short, verdict-late, verdict-admitted}

@@ -1,13 +1,12 @@
 -- `verdict::load` meets its contract: the sum so far is the row's own C and the demand of the rows passed, and stays far below 64 bits.
 use mathlib.Core.List.{List}
-use mathlib.Core.Path.{_≡_, refl, sym, ap, _∙_}
-use Prim.Native.Nat.{ℕ, suc, _+_, _-_, _*_, _/_, _≤_, _<_}
+use mathlib.Core.Path.{_≡_, sym, ap, _∙_}
+use Prim.Native.Nat.{ℕ, _+_, _-_, _*_, _/_, _≤_, _<_}
 use native.Mathlib.Numerals.{add-one}
-use native.Mathlib.Nat.{add-zero, add-assoc}
 use native.Mathlib.Omega.{arith}
 use lib.ListN.{length}
 use Rattle.law.specs.Sums.{sum}
-use Rattle.law.specs.Table.{Task, tableOf, taskAt, row, WellFormed}
+use Rattle.law.specs.Table.{Task, tableOf, row, WellFormed}
 use Rattle.law.specs.Verdict.{demand, load}
 use Rattle.law.proofs.Table.{table-length, table-row}
 use Rattle.law.proofs.Verdict.{demand-small}

@@ -14,7 +14,6 @@ use Rattle.law.specs.Verdict.{response, fits, misfit, responses}
 use Rattle.law.proofs.First.{Searched, searched-start, searched-hit, searched-next, searched-end, build-length}
 use Rattle.law.proofs.Fill.{filled, filled-none, filled-next, filled-front}
 use Rattle.law.proofs.Table.{table-length}
-use Rattle.verdict.specs.declared.Fit.{Fit}
 use Rattle.verdict.specs.declared.Fit.the-variants.{At, Never}
 use Rattle.verdict.specs.Said.{fitOf}
 use Rattle.verdict.proofs.respond.Statement.{statement}

@@ -1,14 +1,13 @@
 -- `verdict::search` meets its contract: no tick before t fits, and a leap to the load at t passes over none that does.
 use mathlib.Core.List.{List}
-use mathlib.Core.Path.{_≡_, refl, sym, ap, _∙_}
+use mathlib.Core.Path.{_≡_, sym, ap, _∙_}
 use Prim.Native.Nat.{ℕ, _+_, _-_, _/_, _≤_, _<_}
 use native.Mathlib.Omega.{arith}
 use lib.ListN.{length}
 use Rattle.law.specs.Table.{Task, tableOf, row, WellFormed}
-use Rattle.law.specs.Verdict.{load, response, fits}
+use Rattle.law.specs.Verdict.{load, fits}
 use Rattle.law.proofs.Table.{table-length, table-row}
 use Rattle.law.proofs.Verdict.{Sought, sought-start, sought-fits, sought-never, sought-leap, fits-yes, fits-no}
-use Rattle.verdict.specs.declared.Fit.{Fit}
 use Rattle.verdict.specs.declared.Fit.the-variants.{At, Never}
 use Rattle.verdict.specs.Said.{fitOf}
 use Rattle.verdict.proofs.search.Statement.{statement}

@@ -1,11 +1,9 @@
 -- `dispatch::run::run_words` meets its contract: refused states and clocks are those of the law, and the ticks are its run.
-use mathlib.Core.Bool.{true, false}
-use mathlib.Core.List.{List}
+use mathlib.Core.Bool.{true}
 use mathlib.Core.Path.{_≡_, sym, _∙_}
-use Prim.Native.Nat.{ℕ, _+_, _≤_}
 use native.Mathlib.Omega.{arith}
 use borrow.Author.Tests.{not-true, not-false}
-use Rattle.law.specs.State.{stateOf, savedWell}
+use Rattle.law.specs.State.{savedWell}
 use Rattle.rows.specs.Said.{Held}
 use Rattle.rows.proofs.Words.{words-long}
 use Rattle.tick.proofs.Chain.{time-word}

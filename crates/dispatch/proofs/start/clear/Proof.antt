@@ -1,6 +1,6 @@
 -- `dispatch::start::clear` meets its contract: the words passed are 0.
 use mathlib.Core.List.{List, _++_, append-nil}
-use mathlib.Core.Path.{_≡_, refl, sym, ap, _∙_}
+use mathlib.Core.Path.{_≡_, refl, ap, _∙_}
 use Prim.Native.Nat.{ℕ, _+_, _-_, _≤_}
 use native.Mathlib.Nat.{le-refl}
 use native.Mathlib.Omega.{arith}

@@ -1,5 +1,4 @@
 -- `dispatch::start::fresh_row` meets its contract: a word of k set bits for the window.
-use mathlib.Core.Path.{ap}
 use Rattle.law.proofs.Window.{cut-is}
 use Rattle.table.specs.Said.{taskSaid}
 use borrow.Author.Needs.{needs}

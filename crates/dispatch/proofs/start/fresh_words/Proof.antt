@@ -1,12 +1,11 @@
 -- `dispatch::start::fresh_words` meets its contract: each way out is a case of the law, and only the last one writes.
 use mathlib.Core.List.{List, [], _∷_, _++_}
-use mathlib.Core.Path.{_≡_, refl, sym, ap, _∙_}
-use Prim.Native.Nat.{ℕ, _≤_}
-use native.Mathlib.Omega.{arith}
+use mathlib.Core.Path.{_≡_, sym, ap, _∙_}
+use Prim.Native.Nat.{ℕ}
 use lib.ListN.{length, drop, take}
 use lib.Seq.{length-take-le}
 use Rattle.law.specs.Refusal.{accepted}
-use Rattle.law.specs.Table.{tableOf, checked}
+use Rattle.law.specs.Table.{checked}
 use Rattle.law.proofs.Table.{Accepted, checked-accepted}
 use Rattle.table.specs.Said.{shown}
 use Rattle.dispatch.proofs.Saved.{fresh-unchecked, fresh-short, fresh-laid}

@@ -1,15 +1,15 @@
 -- `dispatch::start::lay_fresh` meets its contract: from all-zero words with their number of rows, each row passed is fresh.
 use mathlib.Core.List.{List, map}
-use mathlib.Core.Path.{_≡_, refl, sym, ap, _∙_, subst}
+use mathlib.Core.Path.{_≡_, sym, ap, _∙_, subst}
 use Prim.Native.Nat.{ℕ, _+_, _-_, _/_, _≤_, _<_}
 use native.Mathlib.Nat.{zero-add}
 use native.Mathlib.Omega.{arith}
-use lib.ListN.{length, getD, set, replicate, length-replicate, length-map, List·getD-map, length-set}
+use lib.ListN.{length, set, replicate, length-replicate, length-map, List·getD-map}
 use lib.Seq.{ext-getD}
 use borrow.Author.Needs.{needs}
 use Rattle.law.specs.Sums.{mapFrom}
 use Rattle.law.specs.Table.{Task, noTask, tableOf, row, Ranged, WellFormed}
-use Rattle.law.specs.Tick.{Row, State, noRow, freshRow, fresh}
+use Rattle.law.specs.Tick.{Row, noRow, freshRow, fresh}
 use Rattle.law.specs.State.{stateOf, laid, withRow}
 use Rattle.law.proofs.Sums.{mapTo-none, mapFrom-length, mapFrom-at}
 use Rattle.law.proofs.Table.{table-length, table-row}

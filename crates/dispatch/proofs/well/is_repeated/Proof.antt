@@ -1,15 +1,13 @@
 -- `dispatch::well::is_repeated` meets its contract: the loop stands at the first earlier row with the id, or has passed only other ids.
-use mathlib.Core.Bool.{Bool, true, false}
+use mathlib.Core.Bool.{Bool}
 use mathlib.Core.List.{List}
-use mathlib.Core.Path.{_≡_, refl, sym, ap, _∙_}
-use Prim.Native.Nat.{ℕ, _+_, _-_, _≤_, _<_}
+use mathlib.Core.Path.{_≡_, sym, ap, _∙_}
+use Prim.Native.Nat.{ℕ, _-_, _<_}
 use native.Mathlib.Omega.{arith}
-use lib.Dec.{eqb, ltb}
-use lib.ListN.{length}
+use lib.Dec.{eqb}
 use borrow.Author.Tests.{eq-eqb, ne-eqb, lt-ltb, le-ltb}
 use Rattle.law.specs.Table.{Task, taskOf, row, repeated}
-use Rattle.law.specs.Tick.{Row}
-use Rattle.law.specs.State.{rowOf, rowAt, stateOf, tasksOf}
+use Rattle.law.specs.State.{rowOf, stateOf, tasksOf}
 use Rattle.law.proofs.First.{Searched, searched-start, searched-hit, searched-next, searched-end}
 use Rattle.rows.specs.Said.{Sized}
 use Rattle.rows.proofs.Words.{task-read}

@@ -1,11 +1,9 @@
 -- `dispatch::well::is_well` meets its contract: the tests are the law's, in its order.
-use mathlib.Core.Bool.{true, false}
-use mathlib.Core.List.{List}
+use mathlib.Core.Bool.{true}
 use mathlib.Core.Path.{_≡_, sym, _∙_}
-use Prim.Native.Nat.{ℕ, _≤_}
 use native.Mathlib.Omega.{arith}
 use lib.Dec.{eqb}
-use lib.ListN.{length, getD}
+use lib.ListN.{getD}
 use borrow.Author.Tests.{not-true, not-false, eqb-true}
 use Rattle.law.specs.Refusal.{within}
 use Rattle.law.specs.Table.{faulty}

@@ -1,20 +1,19 @@
 -- `dispatch::well::rows_well` meets its contract: the rows passed are well, so what is left to test are those from i on.
-use mathlib.Core.Bool.{Bool, true, false, not}
 use mathlib.Core.List.{List}
 use mathlib.Core.Path.{_≡_, refl, sym, ap, _∙_, subst}
-use Prim.Native.Nat.{ℕ, _+_, _-_, _≤_, _<_}
+use Prim.Native.Nat.{ℕ, _-_, _≤_, _<_}
 use native.Mathlib.Omega.{arith}
 use lib.ListN.{length, drop, getD}
 use borrow.Author.Tests.{not-true, not-false}
 use Rattle.law.specs.Sums.{every}
 use Rattle.law.specs.Pattern.{InRange}
-use Rattle.law.specs.Table.{Task, faulty, row}
+use Rattle.law.specs.Table.{faulty, row}
 use Rattle.law.specs.Tick.{Row, noRow, clockEnd}
 use Rattle.law.specs.State.{stateOf, tasksOf, rowAt, rowWell}
 use Rattle.law.proofs.Sums.{every-pass, every-fail, every-end}
 use Rattle.law.proofs.Table.{row-clean, fault-none}
 use Rattle.law.proofs.Ticks.{tasks-length}
-use Rattle.rows.specs.Said.{rowSaid, Sized}
+use Rattle.rows.specs.Said.{Sized}
 use Rattle.rows.proofs.Words.{row-read, task-read}
 use Rattle.dispatch.proofs.well.rows_well.Statement.{statement}
 use Rattle.dispatch.proofs.well.rows_well.Tie as tie

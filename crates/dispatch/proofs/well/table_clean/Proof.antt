@@ -1,15 +1,14 @@
 -- `dispatch::well::table_clean` meets its contract: no row passed has a fault.
 use mathlib.Core.Bool.{Bool, true, false, not}
 use mathlib.Core.List.{List}
-use mathlib.Core.Path.{_≡_, refl, sym, ap, _∙_}
-use Prim.Native.Nat.{ℕ, _+_, _-_, _≤_, _<_}
+use mathlib.Core.Path.{_≡_, sym, ap, _∙_}
+use Prim.Native.Nat.{ℕ, _-_}
 use native.Mathlib.Omega.{arith}
 use lib.Dec.{eqb}
-use lib.ListN.{length}
 use borrow.Author.Needs.{needs}
 use borrow.Author.Tests.{eq-eqb, ne-eqb}
 use Rattle.law.specs.Sums.{first}
-use Rattle.law.specs.Table.{Task, row, faultOf, rowFault, repeated, faulty}
+use Rattle.law.specs.Table.{Task, row, faultOf, rowFault, faulty}
 use Rattle.law.specs.State.{stateOf, tasksOf}
 use Rattle.law.proofs.First.{Searched, searched-start, searched-hit, searched-next, searched-end}
 use Rattle.law.proofs.Ticks.{tasks-length}

@@ -1,9 +1,7 @@
 -- `rows::steps::advanced` meets its contract: the ways out are the cases of the law's tick on a row.
-use mathlib.Core.Path.{_≡_, refl, sym, ap, _∙_}
-use native.Mathlib.Omega.{arith}
-use Rattle.law.specs.Sound.{Running}
-use Rattle.rows.specs.Said.{rowSaid, closedRow}
-use Rattle.rows.proofs.Cases.{waited, is-running, is-resting, rests, finishes, misses, goes-on}
+use mathlib.Core.Path.{refl, sym, _∙_}
+use Rattle.rows.specs.Said.{rowSaid}
+use Rattle.rows.proofs.Cases.{is-running, is-resting, rests, finishes, misses, goes-on}
 use borrow.Author.Needs.{needs}
 use Rattle.rows.proofs.steps.advanced.Statement.{statement}
 use Rattle.rows.proofs.steps.advanced.Tie as tie

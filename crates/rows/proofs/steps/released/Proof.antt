@@ -1,5 +1,4 @@
 -- `rows::steps::released` meets its contract: wait is 0, so each field is the law's release.
-use mathlib.Core.Bool.{Bool}
 use mathlib.Core.Path.{ap, _∙_}
 use Prim.Native.Nat.{_+_}
 use Rattle.law.specs.Sums.{bit}

@@ -1,8 +1,6 @@
 -- `rows::steps::worked` meets its contract: one unit less where chosen.
-use mathlib.Core.Path.{ap}
-use Prim.Native.Nat.{ℕ, _-_}
+use Prim.Native.Nat.{_-_}
 use native.Mathlib.Omega.{arith}
-use Rattle.law.specs.Sums.{bit}
 use borrow.Author.Needs.{needs}
 use Rattle.rows.proofs.steps.worked.Statement.{statement}
 use Rattle.rows.proofs.steps.worked.Tie as tie

@@ -7,8 +7,8 @@ use native.Mathlib.Nat.{ne-of-lt}
 use native.Mathlib.Omega.{arith}
 use lib.ListN.{length, getD, set, length-set}
 use lib.Seq.{getD-set-same, getD-set-other}
-use Rattle.law.specs.Pattern.{InRange, word}
-use Rattle.law.specs.Tick.{Row, coreAt, noRow}
+use Rattle.law.specs.Pattern.{word}
+use Rattle.law.specs.Tick.{Row, coreAt}
 use Rattle.law.specs.State.{rowOf, stateOf}
 use Rattle.law.specs.Table.{taskOf}
 use Rattle.rows.specs.Said.{Held, Fetched}
