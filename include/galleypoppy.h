@@ -3,7 +3,7 @@
  *
  * The functions of `crates/stand_c`, built into `target/staticlib/libstand_c.a` by `rt staticlib stand_c` for x86-64 Linux (the
  * System V calling convention, a 64-bit size_t). Each of them is proved to give the answer that document 01 names, on every input,
- * provided that the caller keeps to "What a caller owes" below.
+ * provided that the caller keeps to "What a caller owes" below and the compiler's back end is right.
  *
  * What the functions do not do: allocate, keep anything between calls, read or write anything but the lent runs, stop or jump out.
  * They can be called at the same time on different runs. The archive has no writable data, and the only outside symbols it asks for
