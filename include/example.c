@@ -1,0 +1,116 @@
+/*
+ * A music stand in small: read the task text, ask for the verdict, run a second of ticks as a timer interrupt would, look at the
+ * counts; save the state on the way and go on from the saved words; meet a refusal.
+ *
+ *     include/run
+ */
+#include <inttypes.h>
+#include <stdio.h>
+#include <stdlib.h>
+#include <string.h>
+
+#include "galleypoppy.h"
+
+enum { SECOND = 1000, SAVED_AT = 650 };
+
+/* A tick is a millisecond. From the highest row down: pedal scan, tuner, screen, radio slot. */
+static const char stand_text[] =
+    "rows=4\n"
+    "id=1\nc=1\nt=5\nd=2\nm=1\nk=1\n"
+    "id=2\nc=6\nt=20\nd=20\nm=2\nk=3\n"
+    "id=3\nc=14\nt=40\nd=40\nm=3\nk=5\n"
+    "id=4\nc=20\nt=100\nd=100\nm=1\nk=2\n";
+
+static const char *const names[] = {"pedal scan", "tuner", "screen", "radio slot"};
+
+/* Firmware would keep these in place too: nothing here is allocated. */
+static uint32_t table[GP_TABLE_WORDS];
+static uint32_t responses[GP_ROWS_MAX];
+static uint64_t state[GP_STATE_WORDS];
+static uint64_t saved[GP_STATE_WORDS];
+static uint8_t written[GP_TEXT_BYTES];
+
+/* The value of an answer that this program has no use without. */
+static uint64_t wanted(const char *what, struct gp_answer answer)
+{
+    if (answer.refusal != GP_ACCEPTED) {
+        printf("%s: refused=%" PRIu64 " at=%" PRIu64 "\n", what, answer.refusal, answer.value);
+        exit(EXIT_FAILURE);
+    }
+    return answer.value;
+}
+
+static size_t read_table(void)
+{
+    const uint8_t *text = (const uint8_t *)stand_text;
+    size_t length = sizeof stand_text - 1;
+    size_t rows = wanted("read", gp_read(text, length, table, GP_TABLE_WORDS));
+    size_t back = wanted("write", gp_write(table, rows * GP_TASK_WORDS, written, GP_TEXT_BYTES));
+    int same = back == length && memcmp(written, text, length) == 0;
+    printf("read: rows=%zu, written back: %s\n", rows, same ? "the same text" : "another text");
+    return rows;
+}
+
+static void judge(size_t rows)
+{
+    wanted("verdict", gp_verdict(table, rows * GP_TASK_WORDS, responses, GP_ROWS_MAX));
+    printf("verdict: admitted\n");
+    for (size_t row = 0; row < rows; row++)
+        printf("  %s: id=%" PRIu32 " r=%" PRIu32 "\n", names[row], table[row * GP_TASK_WORDS + GP_ID], responses[row]);
+}
+
+/* One call a tick, as from a timer. A firmware that wants many ticks at once calls gp_run. */
+static void run_second(size_t rows)
+{
+    wanted("fresh", gp_fresh(table, rows * GP_TASK_WORDS, state, GP_STATE_WORDS));
+    while (state[GP_TIME] < SECOND) {
+        wanted("tick", gp_tick(state, GP_STATE_WORDS));
+        if (state[GP_TIME] == SAVED_AT)
+            memcpy(saved, state, sizeof saved);
+    }
+    printf("run: ticks=%" PRIu64 " idle=%" PRIu64 "\n", state[GP_TIME], state[GP_IDLE]);
+}
+
+static void show_counts(size_t rows)
+{
+    for (uint32_t row = 0; row < rows; row++) {
+        uint64_t count[GP_COUNT_WORDS] = {0};
+        wanted("counts", gp_counts(state, GP_STATE_WORDS, row, count, GP_COUNT_WORDS));
+        printf("  %s: released=%" PRIu64 " mm=%" PRIu64 " mx=%" PRIu64 " om=%" PRIu64 " ox=%" PRIu64, names[row],
+               count[GP_COUNT_RELEASED], count[GP_COUNT_MM], count[GP_COUNT_MX], count[GP_COUNT_OM], count[GP_COUNT_OX]);
+        printf(" broken=%" PRIu64 " spare=%" PRIu64 "\n", count[GP_COUNT_BROKEN], count[GP_COUNT_SPARE]);
+    }
+}
+
+/* Words that come from a flash or over a wire are looked at before they are run. */
+static void restore(void)
+{
+    wanted("well", gp_well(saved, GP_STATE_WORDS));
+    printf("saved: ticks=%" PRIu64 ", radio slot: work=%" PRIu64 " left=%" PRIu64 " window=%" PRIu64 "\n", saved[GP_TIME],
+           saved[GP_WORD_AT(3, GP_WORK)], saved[GP_WORD_AT(3, GP_LEFT)], saved[GP_WORD_AT(3, GP_WINDOW)]);
+    wanted("run", gp_run(saved, GP_STATE_WORDS, SECOND - SAVED_AT));
+    int same = memcmp(saved, state, sizeof saved) == 0;
+    printf("restored and run: ticks=%" PRIu64 ", %s\n", saved[GP_TIME], same ? "the same state" : "another state");
+}
+
+/* A heavier screen leaves the radio slot too little. The table stays a table, so it could be run; it is not admitted. */
+static void show_refusal(size_t rows)
+{
+    table[2 * GP_TASK_WORDS + GP_C] = 20;
+    struct gp_answer answer = gp_verdict(table, rows * GP_TASK_WORDS, responses, GP_ROWS_MAX);
+    printf("verdict with a screen of c=20: refused=%" PRIu64 " at=%" PRIu64, answer.refusal, answer.value);
+    if (answer.refusal == GP_UNSCHEDULABLE)
+        printf(", the %s does not fit", names[answer.value]);
+    printf("\n");
+}
+
+int main(void)
+{
+    size_t rows = read_table();
+    judge(rows);
+    run_second(rows);
+    show_counts(rows);
+    restore();
+    show_refusal(rows);
+    return EXIT_SUCCESS;
+}

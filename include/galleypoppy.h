@@ -1,0 +1,223 @@
+/*
+ * Galleypoppy for firmware: patterns, verdict, dispatcher, task text.
+ *
+ * The functions of `crates/stand_c`, built into `target/staticlib/libstand_c.a` by `rt staticlib stand_c` for x86-64 Linux (the
+ * System V calling convention, a 64-bit size_t). Each of them is proved to give the answer that document 01 names, on every input,
+ * provided that the caller keeps to "What a caller owes" below and the compiler's back end is right.
+ *
+ * What the functions do not do: allocate, keep anything between calls, read or write anything but the lent runs, stop or jump out.
+ * They can be called at the same time on different runs. The archive has no writable data, and the only outside symbols it asks for
+ * are memcpy and memset.
+ *
+ * Stack: gp_job, gp_word, gp_tick, gp_run and gp_report lay the pattern book on the stack, 16,640 bytes; gp_report also holds a
+ * table and a state there. The others take little.
+ *
+ * Answers. Every function hands back two numbers. Where `refusal` is 0, the call was accepted and `value` is its answer. Otherwise
+ * `refusal` is a number of document 01 (enum gp_refusal), and `value` is the row or the place that goes with it, 0 where there is
+ * none. If several refusals apply, the first in the order that stands at the function is given. A refused call alters nothing that
+ * was lent. An accepted call alters only what its comment says; a room may be longer than needed, and its rest stays as it was.
+ *
+ * Runs. A lent run of words or bytes is passed as a pointer and then its length: how many words, or how many bytes where it is bytes.
+ * An empty run is a pointer that is aligned and not null, with length 0: any object of the type will do. NULL is never allowed.
+ *
+ * What a caller owes. No proof reaches across the C boundary, so nothing checks that
+ *   - each pointer is not null, is aligned for its type, and is valid for the whole of the length passed with it: every word or byte
+ *     of it initialised, and for a run that is not const also writable; the whole run at most PTRDIFF_MAX bytes
+ *   - the length is the true one, or less
+ *   - the runs of one call do not overlap where one of them is not const, even where the types are the same (the room of gp_counts
+ *     is no part of its state)
+ *   - no other thread and no interrupt writes a lent run during the call, nor reads one that is not const
+ *   - what is linked is the archive that this header came with.
+ */
+#ifndef GALLEYPOPPY_H
+#define GALLEYPOPPY_H
+
+#include <stddef.h>
+#include <stdint.h>
+
+#ifdef __cplusplus
+extern "C" {
+#endif
+
+/* Rows of a table: 1 to this. */
+#define GP_ROWS_MAX 32
+
+/* Words of a row of a table, and of the longest table. */
+#define GP_TASK_WORDS 6
+#define GP_TABLE_WORDS (GP_ROWS_MAX * GP_TASK_WORDS)
+
+/* Words of a state: three, and 18 for each of 32 rows. */
+#define GP_HEAD_WORDS 3
+#define GP_ROW_WORDS 18
+#define GP_STATE_WORDS (GP_HEAD_WORDS + GP_ROWS_MAX * GP_ROW_WORDS)
+
+/* Words that gp_counts fills. */
+#define GP_COUNT_WORDS 7
+
+/* Bytes of the longest task text that is accepted, and of a room that is always enough for gp_report. */
+#define GP_TEXT_BYTES 1384
+#define GP_REPORT_BYTES 5120
+
+/* The last time of the clock. */
+#define GP_CLOCK_END UINT32_C(4294967295)
+
+/* The refusal numbers of document 01, and what `value` is with each. */
+enum gp_refusal {
+    GP_ACCEPTED = 0,        /* no refusal; the answer's value */
+    GP_NOT_WHOLE_ROWS = 1,  /* words not a multiple of six; 0 */
+    GP_NO_ROWS = 2,         /* no rows; 0 */
+    GP_MANY_ROWS = 3,       /* over 32 rows; 0 */
+    GP_ID_RANGE = 4,        /* id outside 1..65535; row */
+    GP_T_RANGE = 5,         /* T outside 1..65535; row */
+    GP_D_RANGE = 6,         /* D outside 1..T; row */
+    GP_C_RANGE = 7,         /* C outside 1..65535; row */
+    GP_K_RANGE = 8,         /* k outside 1..64; row */
+    GP_M_RANGE = 9,         /* m outside 1..k; row */
+    GP_REPEATED = 10,       /* id stands in an earlier row; row */
+    GP_UNSCHEDULABLE = 11,  /* unschedulable; first row that does not fit */
+    GP_TEXT = 12,           /* text fault; place */
+    GP_ROOM = 13,           /* lent room too short for the answer; 0 */
+    GP_STATE = 14,          /* state not well formed; 0 */
+    GP_CLOCK = 15           /* time + n past the clock's end; 0 */
+};
+
+/* Every answer. The name of the type is the header's; its layout is the archive's. */
+struct gp_answer {
+    uint64_t refusal;
+    uint64_t value;
+};
+
+/*
+ * A table: 32-bit words, six to a row, in the order of the first six of enum gp_field (id, C, T, D, m, k). The order of the rows is
+ * the order of priority, row 0 highest.
+ *
+ * A state: GP_STATE_WORDS 64-bit words. It is all there is to a running table: copy the words to save it, copy them back to restore
+ * it. First these three:
+ */
+enum gp_head {
+    GP_ROWS = 0,  /* number of rows, 1 to 32 */
+    GP_TIME = 1,  /* ticks done, 0 to GP_CLOCK_END */
+    GP_IDLE = 2   /* idle ticks among them */
+};
+
+/* Then 18 words a row, in this order. Rows past the last are all 0. */
+enum gp_field {
+    GP_ID = 0,
+    GP_C = 1,
+    GP_T = 2,
+    GP_D = 3,
+    GP_M = 4,
+    GP_K = 5,
+    GP_WAIT = 6,       /* ticks until the next release, 0 to T - 1 */
+    GP_PLACE = 7,      /* the next job's place in the pattern, 0 to k - 1 */
+    GP_WORK = 8,       /* the live job's work left, 0 where none is live */
+    GP_LEFT = 9,       /* ticks left to its deadline, 0 where none is live */
+    GP_KIND = 10,      /* 1 for a live mandatory job, otherwise 0 */
+    GP_WINDOW = 11,    /* the last k marks, newest in bit 0, 1 for met; bits from k up are clear */
+    GP_RELEASED = 12,  /* jobs released */
+    GP_MM = 13,        /* mandatory met */
+    GP_MX = 14,        /* mandatory missed */
+    GP_OM = 15,        /* optional met */
+    GP_OX = 16,        /* optional missed */
+    GP_BROKEN = 17     /* settlings after which the window held fewer than m met marks */
+};
+
+/* The index of a row's word among the words of a state: state[GP_WORD_AT(2, GP_WINDOW)]. */
+#define GP_WORD_AT(row, field) (GP_HEAD_WORDS + (row) * GP_ROW_WORDS + (field))
+
+/* What gp_counts fills, in this order. */
+enum gp_count {
+    GP_COUNT_RELEASED = 0,
+    GP_COUNT_MM = 1,
+    GP_COUNT_MX = 2,
+    GP_COUNT_OM = 3,
+    GP_COUNT_OX = 4,
+    GP_COUNT_BROKEN = 5,
+    GP_COUNT_SPARE = 6  /* met marks in the window less m, or 0: how many further misses the task can bear */
+};
+
+/*
+ * Whether job number `job`, from 0, of a task with m out of k is mandatory. Value: 1, or 0 for optional.
+ * Refusals: 8, 9, each with row 0.
+ */
+struct gp_answer gp_job(uint32_t m, uint32_t k, uint32_t job);
+
+/*
+ * The pattern word of m out of k. Value: the word; bit a, for a below k, is set exactly when job a is mandatory.
+ * Refusals: 8, 9, each with row 0.
+ */
+struct gp_answer gp_word(uint32_t m, uint32_t k);
+
+/*
+ * Whether words are a table. Value: its number of rows.
+ * Refusals: 1, 2, 3, then row by row 4 to 10 in number order.
+ */
+struct gp_answer gp_check(const uint32_t *words, size_t words_length);
+
+/*
+ * The verdict on a table. Value: its number of rows; the room then holds the response times, one word a row, from the start.
+ * GP_ROWS_MAX words are room for every table.
+ * Refusals: 1, 2, 3, then row by row 4 to 10 in number order, 13, 11.
+ */
+struct gp_answer gp_verdict(const uint32_t *words, size_t words_length, uint32_t *room, size_t room_length);
+
+/*
+ * The fresh state of a table, admitted or not, in the first GP_STATE_WORDS words of the room. Value: its number of rows.
+ * Refusals: 1, 2, 3, then row by row 4 to 10 in number order, 13.
+ */
+struct gp_answer gp_fresh(const uint32_t *table, size_t table_length, uint64_t *room, size_t room_length);
+
+/*
+ * Whether words are a well-formed state: the length is GP_STATE_WORDS, and the words are as document 01 asks. Value: 0.
+ * A state that gp_fresh laid and only gp_tick and gp_run altered is well formed.
+ * Refusals: 14.
+ */
+struct gp_answer gp_well(const uint64_t *state, size_t state_length);
+
+/*
+ * One tick: the state one tick later. Value: 0. The same as gp_run with n = 1.
+ * Refusals: 14, 15.
+ */
+struct gp_answer gp_tick(uint64_t *state, size_t state_length);
+
+/*
+ * n ticks: the state n ticks later. Value: 0. A run of 0 alters nothing. The state is looked at once, before the first tick, so a
+ * long run is much cheaper than as many single ticks.
+ * Refusals: 14, 15.
+ */
+struct gp_answer gp_run(uint64_t *state, size_t state_length, uint32_t n);
+
+/*
+ * The counts of one row of a state, in the first GP_COUNT_WORDS words of the room (enum gp_count). Value: 0.
+ * Where the state has no such row, all seven are 0.
+ * Refusals: 14, 13.
+ */
+struct gp_answer gp_counts(const uint64_t *state, size_t state_length, uint32_t row, uint64_t *room, size_t room_length);
+
+/*
+ * Reads a task text. Value: the number of rows; the room then holds the table, six words a row, from the start.
+ * GP_TABLE_WORDS words are room for every table.
+ * Refusals: 12 for the first line, 2 and 3 for its value, 12 for the remaining lines, then row by row 4 to 10 in number order, 13.
+ */
+struct gp_answer gp_read(const uint8_t *text, size_t text_length, uint32_t *room, size_t room_length);
+
+/*
+ * Writes the task text of a table. Value: the length of the text, which stands in the room from the start, with no 0 behind it.
+ * GP_TEXT_BYTES bytes are room for every table.
+ * Refusals: 1, 2, 3, then row by row 4 to 10 in number order, 13.
+ */
+struct gp_answer gp_write(const uint32_t *words, size_t words_length, uint8_t *room, size_t room_length);
+
+/*
+ * The printing program: from its input, a line `ticks=N` and a task text, to all that it prints. Value: the length of what is
+ * printed, which stands in the room from the start, with no 0 behind it. A refusal of the input is printed too, and is no refusal
+ * of this call. GP_REPORT_BYTES bytes are always enough.
+ * Refusals: 13.
+ */
+struct gp_answer gp_report(const uint8_t *input, size_t input_length, uint8_t *room, size_t room_length);
+
+#ifdef __cplusplus
+}
+#endif
+
+#endif

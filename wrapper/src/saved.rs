@@ -1,0 +1,96 @@
+//! The words of a state, lent where they lie. [`State`](crate::State) keeps them for who doesn't want to.
+
+use crate::{ffi, Refusal, ROWS_MAX};
+
+/// Words of a state before its rows: the number of rows, the time, the idle count.
+pub(crate) const HEAD_WORDS: usize = 3;
+
+/// Words of a row of a state, in the order of [`Field`](crate::Field).
+pub(crate) const ROW_WORDS: usize = 18;
+
+/// Words of a state: the number of rows, the time, the idle count, then 18 words for each of 32 rows, 0 where there is no row.
+pub const STATE_WORDS: usize = HEAD_WORDS + ROWS_MAX * ROW_WORDS;
+
+/// Words of a row's counts, in the order of the fields of [`Counts`].
+pub const COUNT_WORDS: usize = 7;
+
+/// The counts of one row.
+#[derive(Clone, Copy, Debug, Default, PartialEq, Eq, Hash)]
+pub struct Counts {
+    /// Jobs released.
+    pub released: u64,
+    /// Mandatory jobs met.
+    pub mm: u64,
+    /// Mandatory jobs missed.
+    pub mx: u64,
+    /// Optional jobs met.
+    pub om: u64,
+    /// Optional jobs missed.
+    pub ox: u64,
+    /// Settlings after which the window held fewer than m met marks.
+    pub broken: u64,
+    /// Met marks in the window less m, or 0: how many further misses the task can bear.
+    pub spare: u64,
+}
+
+impl Counts {
+    fn of(words: [u64; COUNT_WORDS]) -> Counts {
+        let [released, mm, mx, om, ox, broken, spare] = words;
+        Counts {
+            released,
+            mm,
+            mx,
+            om,
+            ox,
+            broken,
+            spare,
+        }
+    }
+}
+
+/// The fresh state of a table, admitted or not, in the first [`STATE_WORDS`] words of the room: its number of rows.
+///
+/// # Errors
+///
+/// Refusals 1, 2, 3, then row by row 4 to 10 in number order, 13.
+pub fn fresh(table: &[u32], room: &mut [u64]) -> Result<usize, Refusal> {
+    ffi::fresh(table, room).map(|rows| rows as usize)
+}
+
+/// Whether words are a well-formed state, [`STATE_WORDS`] in number.
+///
+/// # Errors
+///
+/// Refusal 14.
+pub fn well(state: &[u64]) -> Result<(), Refusal> {
+    ffi::well(state).map(|_| ())
+}
+
+/// One tick of a state.
+///
+/// # Errors
+///
+/// Refusals 14, 15.
+pub fn tick(state: &mut [u64]) -> Result<(), Refusal> {
+    ffi::tick(state).map(|_| ())
+}
+
+/// n ticks of a state, looked at once before the first. A run of 0 alters nothing.
+///
+/// # Errors
+///
+/// Refusals 14, 15.
+pub fn run(state: &mut [u64], n: u32) -> Result<(), Refusal> {
+    ffi::run(state, n).map(|_| ())
+}
+
+/// The counts of one row of a state, all 0 where it has no such row.
+///
+/// # Errors
+///
+/// Refusal 14.
+pub fn counts(state: &[u64], row: u32) -> Result<Counts, Refusal> {
+    let mut room = [0; COUNT_WORDS];
+    ffi::counts(state, row, &mut room)?;
+    Ok(Counts::of(room))
+}

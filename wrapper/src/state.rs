@@ -1,0 +1,151 @@
+//! A state that keeps its own words.
+
+use crate::saved::{HEAD_WORDS, ROW_WORDS};
+use crate::{counts, fresh, run, tick, well, Counts, Refusal, STATE_WORDS};
+
+/// The words of a row of a state, in their order.
+#[derive(Clone, Copy, Debug, PartialEq, Eq, Hash)]
+pub enum Field {
+    /// The task's id.
+    Id,
+    /// C, the work of a job.
+    C,
+    /// T, the ticks from release to release.
+    T,
+    /// D, the ticks from a release to its deadline.
+    D,
+    /// m of m out of k.
+    M,
+    /// k of m out of k.
+    K,
+    /// Ticks until the next release.
+    Wait,
+    /// The next job's place in the pattern.
+    Place,
+    /// The live job's work left, 0 where none is live.
+    Work,
+    /// Ticks left to the live job's deadline, 0 where none is live.
+    Left,
+    /// 1 for a live mandatory job, otherwise 0.
+    Kind,
+    /// The last k marks, the newest in bit 0, 1 for met.
+    Window,
+    /// Jobs released.
+    Released,
+    /// Mandatory jobs met.
+    Mm,
+    /// Mandatory jobs missed.
+    Mx,
+    /// Optional jobs met.
+    Om,
+    /// Optional jobs missed.
+    Ox,
+    /// Settlings after which the window held fewer than m met marks.
+    Broken,
+}
+
+/// A running table. It comes from [`State::fresh`] or [`State::restore`] alone, so its words are a well-formed state at all times.
+///
+/// ```
+/// use galleypoppy::{Refusal, State};
+///
+/// # fn main() -> Result<(), Refusal> {
+/// let mut state = State::fresh(&[7, 1, 1, 1, 1, 1])?;
+/// state.run(10)?;
+/// let kept = *state.words();
+///
+/// state.tick()?;
+/// let mut again = State::restore(&kept)?;
+/// again.tick()?;
+/// assert_eq!(again, state);
+/// # Ok(())
+/// # }
+/// ```
+#[derive(Clone, Debug, PartialEq, Eq)]
+pub struct State {
+    words: [u64; STATE_WORDS],
+}
+
+impl State {
+    /// The fresh state of a table, admitted or not.
+    ///
+    /// # Errors
+    ///
+    /// Refusals 1, 2, 3, then row by row 4 to 10 in number order.
+    pub fn fresh(table: &[u32]) -> Result<State, Refusal> {
+        let mut words = [0; STATE_WORDS];
+        fresh(table, &mut words)?;
+        Ok(State { words })
+    }
+
+    /// The state that saved words say.
+    ///
+    /// # Errors
+    ///
+    /// Refusal 14.
+    pub fn restore(words: &[u64]) -> Result<State, Refusal> {
+        well(words)?;
+        let words = words.try_into().map_err(|_| Refusal::State)?;
+        Ok(State { words })
+    }
+
+    /// The words to save.
+    #[must_use]
+    pub fn words(&self) -> &[u64; STATE_WORDS] {
+        &self.words
+    }
+
+    /// The number of rows.
+    #[must_use]
+    pub fn rows(&self) -> usize {
+        self.words[0] as usize
+    }
+
+    /// Ticks done.
+    #[must_use]
+    pub fn time(&self) -> u32 {
+        self.words[1] as u32
+    }
+
+    /// Idle ticks among them.
+    #[must_use]
+    pub fn idle(&self) -> u32 {
+        self.words[2] as u32
+    }
+
+    /// One word of a row, `None` where there is no such row.
+    #[must_use]
+    pub fn word(&self, row: usize, field: Field) -> Option<u64> {
+        let rows = self.words.get(HEAD_WORDS..)?;
+        let words = rows.chunks_exact(ROW_WORDS).take(self.rows()).nth(row)?;
+        words.get(field as usize).copied()
+    }
+
+    /// The counts of a row, `None` where there is no such row.
+    #[must_use]
+    pub fn counts(&self, row: usize) -> Option<Counts> {
+        if row < self.rows() {
+            counts(&self.words, row as u32).ok()
+        } else {
+            None
+        }
+    }
+
+    /// One tick.
+    ///
+    /// # Errors
+    ///
+    /// Refusal 15.
+    pub fn tick(&mut self) -> Result<(), Refusal> {
+        tick(&mut self.words)
+    }
+
+    /// n ticks.
+    ///
+    /// # Errors
+    ///
+    /// Refusal 15.
+    pub fn run(&mut self, n: u32) -> Result<(), Refusal> {
+        run(&mut self.words, n)
+    }
+}

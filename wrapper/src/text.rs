@@ -1,0 +1,55 @@
+//! Task text, and the printing program as a function.
+
+use crate::{ffi, filled, Refusal, TASK_WORDS};
+
+/// Bytes of the longest task text that is accepted.
+pub const TEXT_BYTES: usize = 1384;
+
+/// Bytes of a room that is always enough for [`report`].
+pub const REPORT_BYTES: usize = 5120;
+
+/// Reads a task text: the table, six words a row, from the start of the room. [`TABLE_WORDS`](crate::TABLE_WORDS) words are room
+/// for every table.
+///
+/// ```
+/// use galleypoppy::{read, Refusal};
+///
+/// let mut room = [0; 6];
+/// assert_eq!(read(b"rows=1\nid=7\nc=1\nt=2\nd=2\nm=1\nk=1\n", &mut room), Ok(&[7, 1, 2, 2, 1, 1][..]));
+/// assert_eq!(read(b"rows=1\nid=07\n", &mut room), Err(Refusal::Text(11)));
+/// ```
+///
+/// # Errors
+///
+/// Refusals 12 for the first line, 2 and 3 for its value, 12 for the remaining lines, then row by row 4 to 10 in number order,
+/// 13.
+pub fn read<'a>(text: &[u8], room: &'a mut [u32]) -> Result<&'a [u32], Refusal> {
+    let rows = ffi::read(text, room)?;
+    Ok(filled(room, rows as usize * TASK_WORDS))
+}
+
+/// Writes the task text of a table from the start of the room. [`TEXT_BYTES`] bytes are room for every table.
+///
+/// # Errors
+///
+/// Refusals 1, 2, 3, then row by row 4 to 10 in number order, 13.
+pub fn write<'a>(words: &[u32], room: &'a mut [u8]) -> Result<&'a [u8], Refusal> {
+    let length = ffi::write(words, room)?;
+    Ok(filled(room, length as usize))
+}
+
+/// The printing program: from its input, a line `ticks=N` and a task text, to all that it prints, from the start of the room. A
+/// refusal of the input is printed too. [`REPORT_BYTES`] bytes are always enough.
+///
+/// ```
+/// let mut room = [0; galleypoppy::REPORT_BYTES];
+/// assert_eq!(galleypoppy::report(b"ticks=5\nrows=0\n", &mut room), Ok(&b"refused=2\n"[..]));
+/// ```
+///
+/// # Errors
+///
+/// Refusal 13.
+pub fn report<'a>(input: &[u8], room: &'a mut [u8]) -> Result<&'a [u8], Refusal> {
+    let length = ffi::report(input, room)?;
+    Ok(filled(room, length as usize))
+}
