@@ -4,6 +4,7 @@ mod ask;
 mod numbers;
 mod run;
 mod show;
+
 ghost use Prim.Native.Nat.{_<_};
 ghost use lib.ListN.{length};
 use libc::STDIN_FILENO;

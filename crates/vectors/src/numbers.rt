@@ -89,7 +89,11 @@ pub fn low_at(case: &[u64], i: usize) -> u32 {
 pub fn held(asked: u64, most: usize) -> usize
     ensures { λ r. ⌜ r ≤ most ⌝ }
 {
-    if asked < most as u64 { asked as usize } else { most }
+    if asked < most as u64 {
+        asked as usize
+    } else {
+        most
+    }
 }
 
 // How much of a room of words a case asks for.

@@ -1,7 +1,5 @@
 -- `vectors::numbers::put` meets its contract: a store keeps the length of the room.
-use Prim.Native.Nat.{_-_}
 use native.Mathlib.Omega.{arith}
-use lib.ListN.{length}
 use lib.ListN.{length-set}
 use borrow.Author.Needs.{needs}
 use Rattle.vectors.proofs.numbers.put.Statement.{statement}

@@ -1,6 +1,4 @@
 -- `vectors::show::state_length` meets its contract: the length lies within the room.
-use Prim.Native.Nat.{_-_}
-use lib.ListN.{length}
 use borrow.Author.Needs.{needs}
 use Rattle.io.proofs.Counting.{counts}
 use Rattle.vectors.proofs.show.state_length.Statement.{statement}
