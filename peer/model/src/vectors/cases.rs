@@ -332,7 +332,7 @@ fn runs(cases: &mut Cases) {
         cases.add(&[length as u64, 3, NOWHERE, 0, 5], P[0]);
         cases.add(&[length as u64, 3, 2, 4, 5], P[6]);
     }
-    for turn in 0..180 {
+    for turn in 0..150 {
         let words = if turn % 3 == 0 {
             cases.few_rows(tiny_table)
         } else {
@@ -341,7 +341,7 @@ fn runs(cases: &mut Cases) {
         let (n, more) = (ticks(&mut cases.rng), ticks(&mut cases.rng));
         cases.add(&[room, n.into(), NOWHERE, 0, more.into()], &words);
     }
-    for _ in 0..60 {
+    for _ in 0..45 {
         let words = cases.few_rows(loaded_table);
         let n = ticks(&mut cases.rng);
         let state = state_at(&words, n);
@@ -372,7 +372,7 @@ fn counts(cases: &mut Cases) {
         cases.add(&[room, 24, 2, 25, 0, 6], words);
         cases.add(&[room + 1, 24, NOWHERE, 0, 0, 7], words);
     }
-    for _ in 0..50 {
+    for _ in 0..36 {
         let words = cases.few_rows(tiny_table);
         let n = ticks(&mut cases.rng);
         let state = state_at(&words, n);
