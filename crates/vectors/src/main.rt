@@ -4,6 +4,7 @@ mod ask;
 mod numbers;
 mod run;
 mod show;
+mod texts;
 
 ghost use Prim.Native.Nat.{_<_};
 ghost use lib.ListN.{length};
@@ -13,7 +14,7 @@ use numbers::line_end;
 use numbers::number_at;
 use numbers::numbers_of;
 
-// One case. The operations 8 to 10 are kept for the task text and the printing program.
+// One case. A number that is no operation's is answered by itself alone.
 fn answer(case: &[u64]) {
     let operation = number_at(case, 0);
     io::print_decimal(STDOUT_FILENO, operation);
@@ -25,6 +26,9 @@ fn answer(case: &[u64]) {
         5 => run::fresh(case),
         6 => run::damaged(case),
         7 => run::counts(case),
+        8 => texts::read(case),
+        9 => texts::write(case),
+        10 => texts::print(case),
         _ => {}
     }
     io::write_all(STDOUT_FILENO, b"\n");

@@ -110,6 +110,13 @@ pub fn wide_part_of(case: &[u64], i: usize, room: &[u64]) -> usize
     held(number_at(case, i), room.len())
 }
 
+// The same of a room of bytes.
+pub fn byte_part_of(case: &[u64], i: usize, room: &[u8]) -> usize
+    ensures { λ r. ⌜ Counts r (now (room .entry)) ⌝ }
+{
+    held(number_at(case, i), room.len())
+}
+
 // The words of a table, which are the last numbers of a case: how many there are.
 pub fn words_of(case: &[u64], from: usize, room: &mut [u32]) -> usize
     requires { ⌜ from ≤ 7 ⌝ }
@@ -121,6 +128,27 @@ pub fn words_of(case: &[u64], from: usize, room: &mut [u32]) -> usize
             return n;
         }
         room[n] = low(case[from + n]);
+        n += 1;
+    }
+    n
+}
+
+// The low 8 bits of a number.
+fn low_byte(number: u64) -> u8 {
+    (number % 256) as u8
+}
+
+// The bytes of a text, which are the last numbers of a case: how many there are.
+pub fn bytes_of(case: &[u64], from: usize, room: &mut [u8]) -> usize
+    requires { ⌜ from ≤ 7 ⌝ }
+    ensures { λ r. ⌜ Counts r (now (room .exit)) ⌝ }
+{
+    let mut n = 0;
+    while n < room.len() {
+        if case.len() <= from + n {
+            return n;
+        }
+        room[n] = low_byte(case[from + n]);
         n += 1;
     }
     n

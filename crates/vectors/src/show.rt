@@ -7,6 +7,7 @@ use refusal::Refusal;
 
 // What a room holds before a call.
 pub const BEFORE: u32 = 4000000007;
+pub const BYTE_BEFORE: u8 = 255;
 
 pub fn number(x: u64) {
     io::write_all(STDOUT_FILENO, b" ");
@@ -48,6 +49,19 @@ pub fn wide_words(room: &[u64]) {
     let mut i = 0;
     while i < room.len() {
         number(room[i]);
+        i += 1;
+    }
+}
+
+fn wide_byte(byte: u8) -> u64 {
+    byte as u64
+}
+
+// The same of bytes.
+pub fn bytes(room: &[u8]) {
+    let mut i = 0;
+    while i < room.len() {
+        number(wide_byte(room[i]));
         i += 1;
     }
 }

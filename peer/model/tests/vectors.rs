@@ -66,6 +66,10 @@ fn every_refusal_is_reached() {
     assert_eq!(given(6, 7), BTreeSet::from([0, 14, 15]));
     assert_eq!(given(6, 9), BTreeSet::from([0, 14, 15]));
     assert_eq!(given(7, 5), BTreeSet::from([0, 13, 14]));
+    let text = [2, 3, 4, 5, 6, 7, 8, 9, 10, 12, 13, 0];
+    assert_eq!(given(8, 1), BTreeSet::from(text));
+    assert_eq!(given(9, 1), with(&[0, 13]));
+    assert_eq!(given(10, 1), BTreeSet::from([0, 13]));
 }
 
 #[test]
@@ -107,6 +111,8 @@ fn what_is_no_case() {
         (1, "3 4294967296\n"),
         (1, "4 65\n"),
         (1, "5 641\n"),
+        (1, "8 0 256\n"),
+        (1, "9 4097\n"),
     ] {
         assert_eq!(answers(text), Err(at), "{text:?}");
     }

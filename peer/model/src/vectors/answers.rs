@@ -1,11 +1,14 @@
 //! The answers to the stored cases, by the second program's own functions.
 
-use super::{line, BEFORE, COUNT_ROOM_MAX, ROOM_MAX, STATE_ROOM_MAX, WORDS_MAX};
+use super::{line, BEFORE, BYTES_MAX, BYTE_BEFORE, BYTE_ROOM_MAX};
+use super::{COUNT_ROOM_MAX, ROOM_MAX, STATE_ROOM_MAX, WORDS_MAX};
 use crate::answer::Answer;
 use crate::counts::counts_words;
 use crate::dispatch::{self, HEAD_WORDS, SAVED_ROW_WORDS, STATE_WORDS};
 use crate::pattern;
+use crate::report::report_into;
 use crate::table::{check, ROWS_MAX};
+use crate::text;
 use crate::verdict::verdict;
 
 /// Every line answered, or the number of the first line that is no case.
@@ -41,6 +44,21 @@ pub fn answer(case: &[u64]) -> Option<Vec<u64>> {
             push(&mut out, counts_words(&state, small(row)?, &mut counted));
             out.extend(counted);
         }
+        [8, room, ref text @ ..] => {
+            let mut words = vec![BEFORE; length(room, WORDS_MAX)?];
+            push(&mut out, text::read(&bytes(text)?, &mut words));
+            out.extend(words.into_iter().map(u64::from));
+        }
+        [9, room, ref words @ ..] => {
+            let mut written = byte_room(room)?;
+            push(&mut out, text::write(&table(words)?, &mut written));
+            out.extend(written.into_iter().map(u64::from));
+        }
+        [10, room, ref input @ ..] => {
+            let mut printed = byte_room(room)?;
+            push(&mut out, report_into(&bytes(input)?, &mut printed));
+            out.extend(printed.into_iter().map(u64::from));
+        }
         _ => return None,
     }
     Some(out)
@@ -61,6 +79,20 @@ fn length(number: u64, most: usize) -> Option<usize> {
 fn table(words: &[u64]) -> Option<Vec<u32>> {
     let fits = words.len() <= WORDS_MAX;
     fits.then(|| words.iter().map(|&word| small(word)).collect())?
+}
+
+fn bytes(numbers: &[u64]) -> Option<Vec<u8>> {
+    let fits = numbers.len() <= BYTES_MAX;
+    fits.then(|| {
+        numbers
+            .iter()
+            .map(|&byte| u8::try_from(byte).ok())
+            .collect()
+    })?
+}
+
+fn byte_room(number: u64) -> Option<Vec<u8>> {
+    Some(vec![BYTE_BEFORE; length(number, BYTE_ROOM_MAX)?])
 }
 
 fn wide_room(number: u64, most: usize) -> Option<Vec<u64>> {

@@ -6,9 +6,14 @@ use super::{line, COUNT_ROOM_MAX, ROOM_MAX, STATE_ROOM_MAX};
 use crate::counts::COUNT_WORDS;
 use crate::dispatch::{fresh_words, run_words, CLOCK_END, STATE_WORDS};
 use crate::gen::{damaged_states, faulty_table, job_question, loaded_table, table, tiny_table};
+use crate::gen::{
+    damaged_text, good_text, longest_table, report_input, special_inputs, special_texts,
+};
 use crate::pattern::K_MAX;
+use crate::report::report;
 use crate::rng::Rng;
 use crate::table::{ROWS_MAX, ROW_WORDS, WORD_MAX};
+use crate::text::text_of;
 use crate::verdict::verdict_leaping;
 
 /// P5 to P10 of document 01, in its order, and then P12.
@@ -43,7 +48,9 @@ const EDGES: [u32; 12] = [
 
 /// Every case, operation by operation.
 pub fn cases() -> String {
-    let parts = [jobs, pairs, checks, verdicts, starts, runs, counts];
+    let parts = [
+        jobs, pairs, checks, verdicts, starts, runs, counts, readings, writings, reports,
+    ];
     let written = parts.iter().zip(1..).map(|(part, seed)| {
         let mut cases = Cases::new(seed);
         part(&mut cases);
@@ -76,6 +83,13 @@ impl Cases {
         self.text += &line(&numbers);
     }
 
+    /// A case on a text.
+    fn add_text(&mut self, room: usize, text: &[u8]) {
+        let mut numbers = vec![self.operation, room as u64];
+        numbers.extend(text.iter().copied().map(u64::from));
+        self.text += &line(&numbers);
+    }
+
     /// A well-formed table, mostly of a few rows.
     fn table(&mut self) -> Vec<u32> {
         self.few_rows(table)
@@ -84,6 +98,16 @@ impl Cases {
     /// A table with faults, mostly of a few rows.
     fn faulty(&mut self) -> Vec<u32> {
         self.few_rows(faulty_table)
+    }
+
+    /// A text that is not long.
+    fn short(&mut self, draw: fn(&mut Rng) -> Vec<u8>) -> Vec<u8> {
+        loop {
+            let text = draw(&mut self.rng);
+            if text.len() <= 120 {
+                return text;
+            }
+        }
     }
 
     fn few_rows(&mut self, draw: fn(&mut Rng) -> Vec<u32>) -> Vec<u32> {
@@ -384,5 +408,71 @@ fn counts(cases: &mut Cases) {
             cases.add(&head, &words);
             cases.add(&[room, n.into(), at, value, row, length as u64], &words);
         }
+    }
+}
+
+fn readings(cases: &mut Cases) {
+    let longest = text_of(&longest_table());
+    cases.add_text(longest_table().len(), &longest);
+    for words in P {
+        for room in [words.len() - 1, words.len(), words.len() + 2, 0] {
+            cases.add_text(room, &text_of(words));
+        }
+    }
+    for text in special_texts().iter().step_by(4) {
+        cases.add_text(7, text);
+    }
+    for (bit, past) in (0..7).flat_map(|bit| [(bit, false), (bit, true)]) {
+        cases.add_text(12, &text_of(&faults(1 << bit, past)));
+    }
+    for draw in [good_text, damaged_text] {
+        for _ in 0..30 {
+            let text = cases.short(draw);
+            let words = ROW_WORDS * cases.rng.index(4);
+            let room = words + cases.rng.index(8);
+            cases.add_text(room, &text);
+        }
+    }
+}
+
+fn writings(cases: &mut Cases) {
+    for words in P
+        .iter()
+        .map(|words| words.to_vec())
+        .chain([longest_table()])
+    {
+        let length = text_of(&words).len();
+        for room in [length - 1, length, length + 2] {
+            cases.add(&[room as u64], &words);
+        }
+    }
+    for length in 0..=13 {
+        cases.add(&[length as u64 % 2], &rows_of(4)[..length]);
+    }
+    cases.add(&[0], &rows_of(33));
+    for set in 0..128 {
+        cases.add(&[u64::from(set % 2)], &faults(set, set % 3 == 0));
+    }
+    for _ in 0..40 {
+        let words = cases.few_rows(tiny_table);
+        let length = text_of(&words).len() + cases.rng.index(3);
+        cases.add(&[length as u64 - 1], &words);
+    }
+}
+
+fn reports(cases: &mut Cases) {
+    for (words, ticks) in P.iter().flat_map(|words| [0, 1, 24].map(|n| (words, n))) {
+        let input = [format!("ticks={ticks}\n").into_bytes(), text_of(words)].concat();
+        let length = report(&input).len();
+        cases.add_text(length, &input);
+        cases.add_text(length - 1, &input);
+    }
+    for input in special_inputs().iter().step_by(3) {
+        cases.add_text(20, input);
+    }
+    for _ in 0..30 {
+        let input = cases.short(report_input);
+        let room = report(&input).len() + cases.rng.index(3);
+        cases.add_text(room, &input);
     }
 }
