@@ -7,6 +7,7 @@ use refusal::Refusal;
 
 // What a room holds before a call.
 pub const BEFORE: u32 = 4000000007;
+
 pub const BYTE_BEFORE: u8 = 255;
 
 pub fn number(x: u64) {
