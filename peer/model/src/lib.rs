@@ -8,6 +8,7 @@
 
 pub mod answer;
 pub mod brute;
+pub mod counts;
 pub mod dispatch;
 pub mod gen;
 pub mod pattern;
@@ -16,4 +17,5 @@ pub mod report;
 pub mod rng;
 pub mod table;
 pub mod text;
+pub mod vectors;
 pub mod verdict;

@@ -1,0 +1,54 @@
+// Operations without a state: 1 job, 2 word, 3 check, 4 verdict.
+use crate::numbers::low_at;
+use crate::numbers::part_of;
+use crate::numbers::words_of;
+use crate::show;
+use crate::show::BEFORE;
+use book::Job;
+use book::Word;
+use table::Checked;
+use verdict::Verdict;
+
+// `1 m k job`: 1 for mandatory, 0 for optional.
+pub fn job(case: &[u64]) {
+    match book::ask(low_at(case, 1), low_at(case, 2), low_at(case, 3)) {
+        Job::Mandatory => show::accepted(1),
+        Job::Optional => show::accepted(0),
+        Job::Refused(r) => show::refused(r),
+    }
+}
+
+// `2 m k`: the pattern word.
+pub fn word(case: &[u64]) {
+    match book::word_of(low_at(case, 1), low_at(case, 2)) {
+        Word::Is(word) => show::accepted(word),
+        Word::Refused(r) => show::refused(r),
+    }
+}
+
+// `3 words`: the number of rows.
+pub fn check(case: &[u64]) {
+    let mut table = [0u32; 256];
+    let n = words_of(case, 1, &mut table);
+    match table::check(&table[..n]) {
+        Checked::Rows(rows) => show::accepted(rows as u64),
+        Checked::Refused(r) => show::refused(r),
+    }
+}
+
+fn judge_in(table: &[u32], room: &mut [u32]) {
+    match verdict::judge(table, room) {
+        Verdict::Admitted(rows) => show::accepted(rows as u64),
+        Verdict::Refused(r) => show::refused(r),
+    }
+    show::words(room);
+}
+
+// `4 length words`: the number of rows, and every word of a room of that length, at most 64.
+pub fn judge(case: &[u64]) {
+    let mut table = [0u32; 256];
+    let mut room = [BEFORE; 64];
+    let n = words_of(case, 2, &mut table);
+    let length = part_of(case, 1, &room);
+    judge_in(&table[..n], &mut room[..length]);
+}

@@ -1,0 +1,157 @@
+//! The answers to the stored cases, by the second program's own functions.
+
+use super::{line, BEFORE, BYTES_MAX, BYTE_BEFORE, BYTE_ROOM_MAX};
+use super::{COUNT_ROOM_MAX, ROOM_MAX, STATE_ROOM_MAX, WORDS_MAX};
+use crate::answer::Answer;
+use crate::counts::counts_words;
+use crate::dispatch::{self, HEAD_WORDS, SAVED_ROW_WORDS, STATE_WORDS};
+use crate::pattern;
+use crate::report::report_into;
+use crate::table::{check, ROWS_MAX};
+use crate::text;
+use crate::verdict::verdict;
+
+/// Every line answered, or the number of the first line that is no case.
+pub fn answers(cases: &str) -> Result<String, usize> {
+    let mut out = String::new();
+    for (at, text) in cases.lines().enumerate() {
+        let numbers: Option<Vec<u64>> = text.split(' ').map(|word| word.parse().ok()).collect();
+        let answered = numbers.and_then(|case| answer(&case));
+        out += &line(&answered.ok_or(at + 1)?);
+    }
+    Ok(out)
+}
+
+/// The numbers of one case's answer, or `None` where the numbers are no case.
+pub fn answer(case: &[u64]) -> Option<Vec<u64>> {
+    let mut out = vec![*case.first()?];
+    match *case {
+        [1, m, k, job] => push(&mut out, pattern::job(small(m)?, small(k)?, small(job)?)),
+        [2, m, k] => push(&mut out, word(small(m)?, small(k)?)),
+        [3, ref words @ ..] => push(&mut out, check(&table(words)?)),
+        [4, room, ref words @ ..] => judged(&mut out, length(room, ROOM_MAX)?, &table(words)?),
+        [5, room, ref words @ ..] => {
+            let state = started(&mut out, room, words)?;
+            show_state(&mut out, &state);
+        }
+        [6, room, n, at, value, more, ref words @ ..] => {
+            let state = begun(&mut out, [room, n, at, value], words)?;
+            run_on(&mut out, state, small(more)?);
+        }
+        [7, room, n, at, value, row, counts, ref words @ ..] => {
+            let state = begun(&mut out, [room, n, at, value], words)?;
+            let mut counted = wide_room(counts, COUNT_ROOM_MAX)?;
+            push(&mut out, counts_words(&state, small(row)?, &mut counted));
+            out.extend(counted);
+        }
+        [8, room, ref text @ ..] => {
+            let mut words = vec![BEFORE; length(room, WORDS_MAX)?];
+            push(&mut out, text::read(&bytes(text)?, &mut words));
+            out.extend(words.into_iter().map(u64::from));
+        }
+        [9, room, ref words @ ..] => {
+            let mut written = byte_room(room)?;
+            push(&mut out, text::write(&table(words)?, &mut written));
+            out.extend(written.into_iter().map(u64::from));
+        }
+        [10, room, ref input @ ..] => {
+            let mut printed = byte_room(room)?;
+            push(&mut out, report_into(&bytes(input)?, &mut printed));
+            out.extend(printed.into_iter().map(u64::from));
+        }
+        _ => return None,
+    }
+    Some(out)
+}
+
+fn push(out: &mut Vec<u64>, answer: Answer) {
+    out.extend([answer.refusal, answer.value]);
+}
+
+fn small(number: u64) -> Option<u32> {
+    u32::try_from(number).ok()
+}
+
+fn length(number: u64, most: usize) -> Option<usize> {
+    usize::try_from(number).ok().filter(|asked| *asked <= most)
+}
+
+fn table(words: &[u64]) -> Option<Vec<u32>> {
+    let fits = words.len() <= WORDS_MAX;
+    fits.then(|| words.iter().map(|&word| small(word)).collect())?
+}
+
+fn bytes(numbers: &[u64]) -> Option<Vec<u8>> {
+    let fits = numbers.len() <= BYTES_MAX;
+    fits.then(|| {
+        numbers
+            .iter()
+            .map(|&byte| u8::try_from(byte).ok())
+            .collect()
+    })?
+}
+
+fn byte_room(number: u64) -> Option<Vec<u8>> {
+    Some(vec![BYTE_BEFORE; length(number, BYTE_ROOM_MAX)?])
+}
+
+fn wide_room(number: u64, most: usize) -> Option<Vec<u64>> {
+    Some(vec![u64::from(BEFORE); length(number, most)?])
+}
+
+/// The pair's word, refused as a question about one of its jobs is.
+fn word(m: u32, k: u32) -> Answer {
+    match pattern::job(m, k, 0) {
+        asked if asked.is_accepted() => Answer::accepted(pattern::word(m, k)),
+        refused => refused,
+    }
+}
+
+fn judged(out: &mut Vec<u64>, length: usize, words: &[u32]) {
+    let mut room = vec![BEFORE; length];
+    push(out, verdict(words, &mut room));
+    out.extend(room.into_iter().map(u64::from));
+}
+
+/// A room, and the fresh state laid into it.
+fn started(out: &mut Vec<u64>, room: u64, words: &[u64]) -> Option<Vec<u64>> {
+    let mut state = wide_room(room, STATE_ROOM_MAX)?;
+    push(out, dispatch::fresh_words(&table(words)?, &mut state));
+    Some(state)
+}
+
+/// A room with a fresh state, run for n ticks, and then one word of it changed.
+fn begun(out: &mut Vec<u64>, [room, n, at, value]: [u64; 4], words: &[u64]) -> Option<Vec<u64>> {
+    let mut state = started(out, room, words)?;
+    push(out, dispatch::run_words(&mut state, small(n)?));
+    if let Some(word) = usize::try_from(at).ok().and_then(|at| state.get_mut(at)) {
+        *word = value;
+    }
+    Some(state)
+}
+
+/// Well formed or not, one tick, more ticks, and the state after them.
+fn run_on(out: &mut Vec<u64>, mut state: Vec<u64>, more: u32) {
+    push(out, dispatch::well_formed_words(&state));
+    push(out, dispatch::tick_words(&mut state));
+    push(out, dispatch::run_words(&mut state, more));
+    show_state(out, &state);
+}
+
+/// The head and the rows of a state; of a number of rows that no state has, the
+/// head alone. Then the digest of all words.
+fn show_state(out: &mut Vec<u64>, state: &[u64]) {
+    if state.len() >= STATE_WORDS {
+        let rows = length(state[0], ROWS_MAX).unwrap_or(0);
+        out.extend(&state[..HEAD_WORDS + rows * SAVED_ROW_WORDS]);
+    }
+    out.push(digest(state));
+}
+
+/// The largest prime below 2^32.
+const DIGEST_END: u64 = 4_294_967_291;
+
+fn digest(words: &[u64]) -> u64 {
+    let with = |sum: u64, word: &u64| (sum * 257 + word % DIGEST_END) % DIGEST_END;
+    words.iter().fold(0, with)
+}

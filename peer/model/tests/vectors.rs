@@ -1,0 +1,119 @@
+//! The stored cases: what stands in the repository is what the second program
+//! writes, and they reach every answer there is.
+
+use std::collections::BTreeSet;
+use std::fs;
+
+use peer::vectors::{answer, answers, cases};
+
+/// The first program reads so many bytes of cases, and so many numbers of one.
+const TEXT_MAX: usize = 262_144;
+const NUMBERS_MAX: usize = 2_048;
+
+fn stored(name: &str) -> String {
+    let folder = concat!(env!("CARGO_MANIFEST_DIR"), "/../../crates/vectors/");
+    fs::read_to_string(format!("{folder}{name}")).unwrap()
+}
+
+/// The line that answers a line.
+fn answered(case: &str) -> String {
+    answers(case).unwrap()
+}
+
+#[test]
+fn the_stored_cases_are_these() {
+    assert!(stored("stdin") == cases(), "write `vectors cases` anew");
+}
+
+#[test]
+fn the_stored_answers_are_these() {
+    let written = answers(&stored("stdin")).unwrap();
+    assert!(stored("stdout") == written, "write `vectors answers` anew");
+}
+
+#[test]
+fn the_first_program_reads_them_all() {
+    let text = cases();
+    assert!(text.len() <= TEXT_MAX);
+    assert!(text.ends_with('\n'));
+    let longest = text.lines().map(|line| line.split(' ').count()).max();
+    assert!(longest.unwrap() <= NUMBERS_MAX);
+}
+
+/// The refusal numbers that an operation's answers give, 0 for accepted; the
+/// answer's place in the line is the operation's.
+fn given(operation: u64, at: usize) -> BTreeSet<u64> {
+    let text = cases();
+    let numbers = text.lines().map(|line| {
+        let numbers = line.split(' ').map(|word| word.parse().unwrap());
+        numbers.collect::<Vec<u64>>()
+    });
+    let asked = numbers.filter(|case| case[0] == operation);
+    asked.map(|case| answer(&case).unwrap()[at]).collect()
+}
+
+#[test]
+fn every_refusal_is_reached() {
+    let table = [1, 2, 3, 4, 5, 6, 7, 8, 9, 10];
+    let with = |more: &[u64]| table.iter().chain(more).copied().collect::<BTreeSet<u64>>();
+    assert_eq!(given(1, 1), BTreeSet::from([0, 8, 9]));
+    assert_eq!(given(2, 1), BTreeSet::from([0, 8, 9]));
+    assert_eq!(given(3, 1), with(&[0]));
+    assert_eq!(given(4, 1), with(&[0, 11, 13]));
+    assert_eq!(given(5, 1), with(&[0, 13]));
+    // Well formed, one tick, more ticks.
+    assert_eq!(given(6, 5), BTreeSet::from([0, 14]));
+    assert_eq!(given(6, 7), BTreeSet::from([0, 14, 15]));
+    assert_eq!(given(6, 9), BTreeSet::from([0, 14, 15]));
+    assert_eq!(given(7, 5), BTreeSet::from([0, 13, 14]));
+    let text = [2, 3, 4, 5, 6, 7, 8, 9, 10, 12, 13, 0];
+    assert_eq!(given(8, 1), BTreeSet::from(text));
+    assert_eq!(given(9, 1), with(&[0, 13]));
+    assert_eq!(given(10, 1), BTreeSet::from([0, 13]));
+}
+
+#[test]
+fn document_01_by_hand() {
+    assert_eq!(answered("1 2 3 4\n1 2 3 5\n"), "1 0 1\n1 0 0\n");
+    assert_eq!(answered("2 1 1\n2 2 3\n2 3 5\n"), "2 0 1\n2 0 3\n2 0 11\n");
+    assert_eq!(answered("1 1 65 0\n2 4 3\n"), "1 8 0\n2 9 0\n");
+    assert_eq!(answered("3\n3 1 2 3 4 5 6 7\n"), "3 2 0\n3 1 0\n");
+    assert_eq!(answered("3 1 1 1 1 1 65 0 1 1 1 1 1\n"), "3 8 0\n");
+    let p5 = "11 2 4 4 1 2 12 4 6 6 2 3\n";
+    assert_eq!(
+        answered(&format!("4 3 {p5}")),
+        "4 0 2 2 6 4000000007\n".to_string()
+    );
+    assert_eq!(answered(&format!("4 1 {p5}")), "4 13 0 4000000007\n");
+    let p6 = "11 2 4 4 1 2 12 5 6 6 2 3\n";
+    assert_eq!(
+        answered(&format!("4 2 {p6}")),
+        "4 11 1 4000000007 4000000007\n"
+    );
+    // The printed example: row 0 after 24 ticks.
+    assert_eq!(
+        answered(&format!("7 579 24 640 0 0 8 {p5}")),
+        "7 0 2 0 0 0 0 6 3 0 2 1 0 1 4000000007\n"
+    );
+    // P10: job 0 is missed at time 1, which leaves the window without a mark.
+    let line = answered("6 579 0 640 0 0 1 2 4 1 1 1\n");
+    let shown = "6 0 1 0 0 0 0 0 0 0 0 1 1 0 1 2 4 1 1 1 3 0 0 0 0 0 1 0 1 0 0 1 ";
+    assert!(line.starts_with(shown), "{line}");
+}
+
+#[test]
+fn what_is_no_case() {
+    for (at, text) in [
+        (1, "\n"),
+        (1, "0\n"),
+        (1, "1 2 3\n"),
+        (2, "2 1 1\n1  2 3 4\n"),
+        (1, "3 4294967296\n"),
+        (1, "4 65\n"),
+        (1, "5 641\n"),
+        (1, "8 0 256\n"),
+        (1, "9 4097\n"),
+    ] {
+        assert_eq!(answers(text), Err(at), "{text:?}");
+    }
+}
