@@ -1,18 +1,54 @@
--- A run from the fresh words of an accepted table: it is made up to the clock's end, and leaves the words of the state after so many ticks.
-use mathlib.Core.Bool.{true}
+-- Runs over words: a run of 0, a run in pieces, and a run from the fresh words of an accepted table, which is made up to the clock's end and leaves
+-- the words of the state after so many ticks.
+use mathlib.Core.Bool.{true, false}
 use mathlib.Core.List.{List, [], append-nil}
-use mathlib.Core.Path.{_≡_, ap, _∙_}
-use Prim.Native.Nat.{ℕ, _≤_}
+use mathlib.Core.Path.{_≡_, sym, ap, _∙_}
+use Prim.Native.Nat.{ℕ, _+_, _≤_}
+use native.Mathlib.Decide.{decLt}
 use native.Mathlib.Omega.{arith}
 use lib.ListN.{getD, replicate, length-replicate}
 use Rattle.law.specs.Refusal.{accepted}
 use Rattle.law.specs.Table.{tableOf, checked}
-use Rattle.law.specs.Tick.{fresh, run, clockEnd}
+use Rattle.law.specs.Tick.{State, fresh, run, clockEnd}
 use Rattle.law.specs.State.{stateOf, laid, savedWell, freshWords, runAnswer, runWords}
 use Rattle.law.proofs.Table.{checked-accepted}
 use Rattle.law.proofs.Fresh.{fresh-sound, laid-saved}
 use Rattle.law.proofs.Laid.{state-laid}
-use Rattle.dispatch.proofs.Saved.{fresh-laid, run-done}
+use Rattle.law.proofs.Tests.{Known, passes, fails, known}
+use Rattle.law.proofs.Ticks.{run-time, run-sound, run-add}
+use Rattle.tick.proofs.Chain.{time-word}
+use Rattle.dispatch.proofs.Saved.{saved-held, fresh-laid, run-ill, run-past, run-done}
+
+-- a run of 0 changes nothing, whatever the words are
+pub run-nothing : (words : List ℕ) → runWords words 0 ≡ words
+unfolding run
+run-nothing words =
+    elim (known (savedWell words)) [
+      | fails e ↦ run-ill words 0 e .1
+      | passes e ↦ elim (decLt clockEnd (getD words 1 0 + 0)) [
+        | yes h ↦ run-past words 0 e h .1
+        | no h ↦ run-done words 0 e (omega arith) .1 ∙ sym (saved-held words e .laid .is)
+      ]
+    ]
+
+-- a run in two pieces is one run
+module _ (words : List ℕ) (good : savedWell words ≡ true) where
+  time-is : (t : ℕ) → getD words 1 0 + t ≤ clockEnd → getD (laid (run t (stateOf words))) 1 0 ≡ getD words 1 0 + t
+  unfolding laid
+  time-is t h = run-time t (stateOf words) ∙ ap (λ (z : ℕ). z + t) (sym (time-word words))
+
+  after-saved : (t : ℕ) → getD words 1 0 + t ≤ clockEnd → savedWell (laid (run t (stateOf words))) ≡ true
+  after-saved t h =
+      laid-saved (run t (stateOf words)) (run-sound t (stateOf words) (saved-held words good .sound) (omega (arith, time-word words)))
+
+  pub run-pieces : (t u : ℕ) → getD words 1 0 + (t + u) ≤ clockEnd → runWords (runWords words t) u ≡ runWords words (t + u)
+  run-pieces t u h =
+      let early : getD words 1 0 + t ≤ clockEnd = omega arith in
+      let on : getD (laid (run t (stateOf words))) 1 0 + u ≤ clockEnd = omega (arith, time-is t early) in
+      ap (λ (z : List ℕ). runWords z u) (run-done words t good early .1)
+      ∙ run-done (laid (run t (stateOf words))) u (after-saved t early) on .1
+      ∙ ap (λ (z : State). laid (run u z)) (state-laid (run t (stateOf words)))
+      ∙ ap laid (sym (run-add t u (stateOf words))) ∙ sym (run-done words (t + u) good h .1)
 
 module _ (table vs : List ℕ) (good : checked table ≡ accepted vs) where
   pub begun-laid : freshWords table (replicate 579 0) ≡ laid (fresh (tableOf table))
@@ -35,3 +71,7 @@ module _ (table vs : List ℕ) (good : checked table ≡ accepted vs) where
       run-done (freshWords table (replicate 579 0)) n begun-saved (omega (arith, begun-time)) .1
       ∙ ap (λ (z : List ℕ). laid (run n (stateOf z))) begun-laid
       ∙ ap (λ z. laid (run n z)) (state-laid (fresh (tableOf table)))
+
+  pub begun-pieces : (t u : ℕ) → t + u ≤ clockEnd
+      → runWords (runWords (freshWords table (replicate 579 0)) t) u ≡ runWords (freshWords table (replicate 579 0)) (t + u)
+  begun-pieces t u h = run-pieces (freshWords table (replicate 579 0)) begun-saved t u (omega (arith, begun-time))

@@ -2,8 +2,8 @@
 use mathlib.Core.List.{List, [], _∷_, map}
 use mathlib.Core.Path.{_≡_, refl}
 use Prim.Native.Nat.{ℕ}
-use Rattle.law.specs.Sums.{ceil, firstFrom, among, mapFrom, sum}
-use Rattle.law.specs.Pattern.{mandatory, count}
+use Rattle.law.specs.Sums.{ceil, firstFrom, among, mapFrom, sum, bitsTo}
+use Rattle.law.specs.Pattern.{mandatory, count, word}
 use Rattle.law.specs.Table.{Task, kindOf, countOf}
 use Rattle.law.specs.Verdict.{demand, load, fitsAt, response}
 use Rattle.law.specs.Tick.{Row, fresh, release, nextPlace, choose, outcome, advance, shifted, marks, settled, releaseAll, advanceAll, finish, begin, tick, run}
@@ -23,3 +23,8 @@ sample = refl
 p5-responses : response p5 0 ∷ response p5 1 ∷ took p5 0 0 ∷ took p5 1 0 ∷ [] ≡ 2 ∷ 6 ∷ 2 ∷ 6 ∷ []
 unfolding p5 response took during settling fitsAt load demand sum countOf count after run tick begin finish fresh release nextPlace choose outcome advance shifted marks settled releaseAll advanceAll mapFrom firstFrom among kindOf mandatory ceil
 p5-responses = refl
+
+-- "The words for (1,1), (2,3) and (3,5) are 1, 3 and 11."
+words : word 1 1 ∷ word 2 3 ∷ word 3 5 ∷ [] ≡ 1 ∷ 3 ∷ 11 ∷ []
+unfolding word bitsTo mandatory ceil
+words = refl

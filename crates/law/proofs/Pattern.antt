@@ -50,8 +50,7 @@ module _ (m k : ℕ) (hm : zero < m) (hk : m ≤ k) where
         turn = λ a. simp (add-mul, mul-comm k m) (ceil-turn (a * m) m k (omega arith));
       }
 
-  -- "q jobs in a row anywhere hold .. no fewer than floor(q x m / k)"
-  pub count-least : (a q : ℕ) → count m k a + q * m / k ≤ count m k (a + q)
+  count-least : (a q : ℕ) → count m k a + q * m / k ≤ count m k (a + q)
   unfolding count
   count-least a q = simp add-mul (ceil-floor (a * m) (q * m) k (omega arith))
 
@@ -88,3 +87,7 @@ module _ {m k : ℕ} {kind : ℕ → Bool} {counted : ℕ → ℕ} (p : IsPatter
 
   pub kind-place : (a : ℕ) → kind (a % k) ≡ kind a
   kind-place a = sym (kind-turns (a % k) (a / k)) ∙ ap kind (mod-add-div' a k)
+
+-- "q jobs in a row anywhere hold .. no fewer than floor(q x m / k)"
+pub among-least : (m k : ℕ) → zero < m → m ≤ k → (a q : ℕ) → q * m / k ≤ among (mandatory m k) a q
+among-least m k hm hk a q = omega (arith, count-least m k hm hk a q, counted-among (even m k hm hk) a q)

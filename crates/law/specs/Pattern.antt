@@ -17,7 +17,8 @@ pub record InRange (m k : ℕ) : Type 0 where
 unfoldable pub mandatory : ℕ → ℕ → ℕ → Bool
 mandatory m k a = eqb a (ceil (a * m) k * k / m)
 
--- "the first q jobs hold exactly ceil(q x m / k) mandatory ones"
+-- how many of the first q jobs are mandatory, by the formula: "the first q jobs hold exactly ceil(q x m / k) mandatory ones". That they do is proved
+-- (`among-first`, proofs/Pattern)
 unfoldable pub count : ℕ → ℕ → ℕ → ℕ
 count m k q = ceil (q * m) k
 

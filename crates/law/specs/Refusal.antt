@@ -30,11 +30,12 @@ lent (refused n also) new old = old
 unfoldable pub within : ℕ → ℕ → ℕ → Bool
 within low high x = both (leb low x) (leb x high)
 
--- the same as two numbers, for callers that take numbers: 0 for accepted or the refusal's number; and the value, row or place, 0 where there is none
+-- the first of a list, 0 where there is none
 abbrev pub head : List ℕ → ℕ
 head [] = 0
 head (v ∷ vs) = v
 
+-- an answer as two numbers, for callers that take numbers: 0 for accepted or the refusal's number; and the value, row or place, 0 where there is none
 abbrev pub codeOf : Answer → ℕ
 codeOf (accepted vs) = 0
 codeOf (refused n vs) = n

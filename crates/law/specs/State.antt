@@ -85,7 +85,7 @@ rowOf word =
 abbrev pub rowAt : List ℕ → ℕ → Row
 rowAt words i = rowOf (λ j. getD words (i * rowWords + (headWords + j)) 0)
 
--- the counts of a row and its spare
+-- how many words a row's counts and its spare take
 abbrev pub countWords : ℕ
 countWords = 7
 

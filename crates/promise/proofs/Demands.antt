@@ -20,7 +20,7 @@ use Rattle.law.proofs.Sums.{among-same}
 use Rattle.law.proofs.Verdict.{pattern-of, AdmittedBy, admitted-says, LateBy, late-says, verdict-admitted}
 use Rattle.theory.proofs.Demand.{kept, missed-first, seen}
 use Rattle.promise.specs.Promised.{reported, rowsIn, rowIn, tookTicks, deadlineOf, Promised, TurnedDown}
-use Rattle.promise.proofs.Runs.{runs, seen-is, took-is}
+use Rattle.promise.proofs.Runs.{runs, in-pieces, seen-is, took-is}
 
 admitted-all : (tasks : List Task) → admitted tasks ≡ true → misfit tasks ≡ length tasks
 unfolding admitted
@@ -88,6 +88,7 @@ module _ (table room : List ℕ) (vs : List ℕ) (e : verdict table (length room
   promised =
       record {
         ran = runs table (w .vs) (w .good);
+        pieces = in-pieces table (w .vs) (w .good);
         in-time = λ i h. omega (arith, times i h, first-fits i h);
         meets = λ i a h k d. omega (arith, ticks i a d, times i h, promises .bound i a h k);
         first = λ i h. ticks i 0 (early i h) ∙ promises .first i h ∙ sym (times i h);
@@ -115,6 +116,7 @@ module _ (table : List ℕ) (room i : ℕ) (e : verdict table room ≡ refused 1
       let g = formed .ranged i (late .in-table) in
       record {
         is-row = late .in-table;
+        ran = runs table (late .vs) (late .good);
         above = λ j l. omega (arith, first-took j (omega (arith, late .in-table)), leb-true (took (tableOf table) j 0) (rowIn table j .d) (sym (in-time-is (tableOf table) j 0) ∙ missing .above j l));
         late = omega (arith, first-took i (late .in-table), leb-false (took (tableOf table) i 0) (rowIn table i .d) (sym (in-time-is (tableOf table) i 0) ∙ missing .late));
         miss = ap (λ (z : State). settling z i) (seen-is table (late .vs) (late .good) (rowIn table i .d - 1) (omega (arith, g .d-high, g .t-high))) ∙ missing .miss;

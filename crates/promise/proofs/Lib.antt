@@ -1,4 +1,5 @@
 pub mod Runs
 pub mod Demands
-pub mod Examples
 pub mod Excluded
+pub mod Examples
+pub mod TextKept

@@ -7,11 +7,11 @@ use native.Mathlib.Omega.{arith}
 use Rattle.law.specs.Refusal.{accepted}
 use Rattle.law.specs.Table.{tableOf, checked}
 use Rattle.law.specs.Tick.{State, fresh, run, clockEnd}
-use Rattle.law.specs.State.{stateOf, laid, runAnswer}
+use Rattle.law.specs.State.{stateOf, laid, runAnswer, runWords}
 use Rattle.law.specs.Promise.{after, settling, isMet, took}
 use Rattle.law.proofs.First.{first-same}
 use Rattle.law.proofs.Laid.{state-laid}
-use Rattle.dispatch.proofs.Begun.{begun-laid, begun-runs, begun-run}
+use Rattle.dispatch.proofs.Begun.{begun-laid, begun-runs, begun-run, begun-pieces}
 use Rattle.promise.specs.Promised.{begun, seenAt, rowIn, tookTicks, deadlineOf}
 
 module _ (table vs : List ℕ) (good : checked table ≡ accepted vs) where
@@ -22,6 +22,10 @@ module _ (table vs : List ℕ) (good : checked table ≡ accepted vs) where
   pub runs : (t : ℕ) → t ≤ clockEnd → runAnswer (begun table) t ≡ accepted []
   unfolding begun
   runs t h = begun-runs table vs good t h
+
+  pub in-pieces : (t u : ℕ) → t + u ≤ clockEnd → runWords (runWords (begun table) t) u ≡ runWords (begun table) (t + u)
+  unfolding begun
+  in-pieces t u h = begun-pieces table vs good t u h
 
   -- the words say the state after t ticks
   pub seen-is : (t : ℕ) → t ≤ clockEnd → seenAt table t ≡ after (tableOf table) t

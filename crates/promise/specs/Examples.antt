@@ -1,21 +1,22 @@
 -- Document 01, "Examples on each side of a limit": P1 to P12 as one table, each case with what the definitions must give.
-use mathlib.Core.List.{List, [], _∷_, _++_}
+use mathlib.Core.List.{List, [], _∷_, _++_, map}
+use mathlib.Core.Path.{_≡_}
 use Prim.Native.Nat.{ℕ, zero, suc, _-_}
 use lib.ListN.{length, take, replicate}
 use Rattle.law.specs.Sums.{pick}
 use Rattle.law.specs.Refusal.{Answer, accepted, refused}
 use Rattle.law.specs.Pattern.{mandatory}
 use Rattle.law.specs.Table.{tableOf}
-use Rattle.law.specs.Verdict.{verdict, verdictRoom}
+use Rattle.law.specs.Verdict.{load, verdict, verdictRoom}
 use Rattle.law.specs.Tick.{Outcome, nothing, met, missed}
 use Rattle.law.specs.Promise.{after, settling}
 
--- What an example asks: which of the first n jobs of (m,k) are mandatory; the verdict on words, with a room of 32 words; the idle count after n
--- ticks from fresh; what becomes of row i at time u.
+-- What an example asks: which of the first n jobs of (m,k) are mandatory; the verdict on words, with a room of 32 words; the load of row i at t;
+-- what becomes of row i at time u.
 pub data Example : Type 0 where
   jobs : ℕ → ℕ → ℕ → Example
   judged : List ℕ → Example
-  idle : List ℕ → ℕ → Example
+  loaded : List ℕ → ℕ → ℕ → Example
   settled : List ℕ → ℕ → ℕ → Example
 
 unfoldable pub mandatoryBelow : ℕ → ℕ → ℕ → List ℕ
@@ -35,7 +36,7 @@ outcomeShown missed = 2
 unfoldable pub shown : Example → List ℕ
 shown (jobs m k n) = mandatoryBelow m k n
 shown (judged words) = verdictShown (verdict words 32) (take (length (tableOf words)) (verdictRoom words (replicate 32 0)))
-shown (idle words n) = after (tableOf words) n .idle ∷ []
+shown (loaded words i t) = load (tableOf words) i t ∷ []
 shown (settled words i u) = outcomeShown (settling (after (tableOf words) (u - 1)) i) ∷ []
 
 -- a row of words, the id first
@@ -65,12 +66,12 @@ cases =
     -- P5 the table above: responses 2 and 6. P6 the same with C 5 in row 1: refusal 11, row 1
     ∷ gives (judged (rowWith 11 2 4 4 1 2 ++ rowWith 12 4 6 6 2 3)) (0 ∷ 2 ∷ 6 ∷ [])
     ∷ gives (judged (rowWith 11 2 4 4 1 2 ++ rowWith 12 5 6 6 2 3)) (11 ∷ 1 ∷ [])
-    -- P7: responses 2 and 4. P8 the same with C 3 in row 1: 11, row 1
+    -- P7: responses 2 and 4, although the load at 5 is 6. P8 the same with C 3 in row 1: 11, row 1
     ∷ gives (judged (rowWith 1 2 4 4 1 1 ++ rowWith 2 2 5 5 1 1)) (0 ∷ 2 ∷ 4 ∷ [])
+    ∷ gives (loaded (rowWith 1 2 4 4 1 1 ++ rowWith 2 2 5 5 1 1) 1 5) (6 ∷ [])
     ∷ gives (judged (rowWith 1 2 4 4 1 1 ++ rowWith 2 3 5 5 1 1)) (11 ∷ 1 ∷ [])
-    -- P9 one row 1,1,1,1,1: response 1, never idle
+    -- P9 one row 1,1,1,1,1: response 1
     ∷ gives (judged (rowWith 1 1 1 1 1 1)) (0 ∷ 1 ∷ [])
-    ∷ gives (idle (rowWith 1 1 1 1 1 1) 64) (0 ∷ [])
     -- P10 one row 2,4,1,1,1: 11, row 0; in a run job 0 is missed at time 1
     ∷ gives (judged (rowWith 1 2 4 1 1 1)) (11 ∷ 0 ∷ [])
     ∷ gives (settled (rowWith 1 2 4 1 1 1) 0 1) (2 ∷ [])
@@ -80,3 +81,8 @@ cases =
     -- P12 row 0 with k 65, row 1 with id 0: 8, row 0
     ∷ gives (judged (rowWith 1 1 1 1 1 65 ++ rowWith 0 1 1 1 1 1)) (8 ∷ 0 ∷ [])
     ∷ []
+
+-- The one statement: every case of the table gives what document 01 says, and P9 is "never idle", however long it runs.
+pub record ExamplesHold : Type 0 where
+  pub table : map (λ (c : Case). shown (c .example)) cases ≡ map (λ (c : Case). c .expected) cases
+  pub never-idle : (n : ℕ) → after (tableOf (rowWith 1 1 1 1 1 1)) n .idle ≡ 0

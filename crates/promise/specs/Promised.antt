@@ -41,13 +41,14 @@ tookTicks table i a = tookIn (seenAt table) (rowIn table i) i a
 abbrev pub deadlineOf : List ℕ → ℕ → ℕ → ℕ
 deadlineOf table i a = a * rowIn table i .t + rowIn table i .d
 
--- "any run from fresh, up to the clock's end": every such run is made.
+-- "any run from fresh, up to the clock's end": every such run is made, and one made in pieces, tick by tick at the least, hands back the same words.
 -- "every mandatory job whose deadline has come finished by it, none took longer than its row's reported response time" (`meets` with `in-time`);
 -- "any k consecutive jobs of a task whose deadlines have all come include at least m finished in time" (`windows`);
 -- the first job takes just the response time; and in every state that a user sees no mandatory job was missed, no window broke, and each
 -- window holds at least m met marks.
 pub record Promised (table room : List ℕ) : Type 0 where
   pub ran : (t : ℕ) → t ≤ clockEnd → runAnswer (begun table) t ≡ accepted []
+  pub pieces : (t u : ℕ) → t + u ≤ clockEnd → runWords (runWords (begun table) t) u ≡ runWords (begun table) (t + u)
   pub in-time : (i : ℕ) → i < rowsIn table → reported table room i ≤ rowIn table i .d
   pub meets : (i a : ℕ) → i < rowsIn table → kindOf (rowIn table i) a ≡ true → deadlineOf table i a ≤ clockEnd
       → tookTicks table i a ≤ reported table room i
@@ -62,6 +63,7 @@ pub record Promised (table room : List ℕ) : Type 0 where
 -- "i is the first row from the top whose first job misses its deadline in that same dispatcher"
 pub record TurnedDown (table : List ℕ) (i : ℕ) : Type 0 where
   pub is-row : i < rowsIn table
+  pub ran : (t : ℕ) → t ≤ clockEnd → runAnswer (begun table) t ≡ accepted []
   pub above : (j : ℕ) → j < i → tookTicks table j 0 ≤ rowIn table j .d
   pub late : rowIn table i .d < tookTicks table i 0
   pub miss : settling (seenAt table (rowIn table i .d - 1)) i ≡ missed
