@@ -9,8 +9,8 @@
  * They can be called at the same time on different runs. The archive has no writable data, and the only outside symbols it asks for
  * are memcpy and memset.
  *
- * Stack: gp_job, gp_word, gp_tick, gp_run and gp_report lay the pattern book on the stack, 16,640 bytes; gp_report also holds a
- * table and a state there. The others take little.
+ * Stack, measured at 32 rows: gp_job, gp_word, gp_tick and gp_run lay the pattern book there, 17,088 bytes in all; gp_report also
+ * holds a table, a state and what it prints, 28,000 bytes; gp_write 1,536, gp_read 1,232, gp_verdict 624, the others under 150.
  *
  * Answers. Every function hands back two numbers. Where `refusal` is 0, the call was accepted and `value` is its answer. Otherwise
  * `refusal` is a number of document 01 (enum gp_refusal), and `value` is the row or the place that goes with it, 0 where there is

@@ -3,3 +3,4 @@ pub mod Demands
 pub mod Excluded
 pub mod Examples
 pub mod TextKept
+pub mod Once
