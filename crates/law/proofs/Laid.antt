@@ -1,6 +1,6 @@
 -- A state laid out as words: each row stands at its place, a row stored there is the state with that row, and well-formed words are the
 -- words of the state that they say.
-use mathlib.Core.Bool.{Bool, true}
+use mathlib.Core.Bool.{true}
 use mathlib.Core.List.{List, [], _∷_, _++_, append-assoc}
 use mathlib.Core.Path.{_≡_, refl, sym, ap, _∙_}
 use Prim.Native.Nat.{ℕ, zero, suc, _+_, _-_, _*_, _/_, _%_, _≤_, _<_}
@@ -15,8 +15,8 @@ use Rattle.law.specs.Sums.{every, build}
 use Rattle.law.specs.Table.{taskOf}
 use Rattle.law.specs.Tick.{Row, State, noRow}
 use Rattle.law.specs.State.{rowOf, rowAt, stateOf, wordsOf, rowsLaid, laid, setsFrom, withRow}
+use Rattle.law.proofs.Lists.{every-at}
 use Rattle.law.proofs.First.{build-length, build-at}
-use Rattle.law.proofs.Tests.{both-left, both-right}
 
 -- ---- one row
 
@@ -246,12 +246,6 @@ state-laid s = λ j. record { time = s .time; idle = s .idle; rows = same j }
       where
         at : (i : ℕ) → i < length (s .rows) → getD (build (rowAt (laid s)) (length (s .rows))) i noRow ≡ getD (s .rows) i noRow
         at i h = build-at (rowAt (laid s)) (length (s .rows)) i noRow h ∙ laid-row s i h
-
-pub every-at : {A : Type 0} (p : A → Bool) (l : List A) (i : ℕ) (d : A) → every p l ≡ true → i < length l → p (getD l i d) ≡ true
-unfolding every
-every-at p [] i d e h = absurd (omega arith)
-every-at p (x ∷ l) zero d e h = both-left (p x) (every p l) e
-every-at p (x ∷ l) (suc i) d e h = every-at p l i d (both-right (p x) (every p l) e) (omega arith)
 
 module _ (words : List ℕ) (long : length words ≡ 579) (few : getD words 0 0 ≤ 32) where
   n-rows : ℕ

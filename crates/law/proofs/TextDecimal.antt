@@ -13,6 +13,7 @@ use Rattle.law.specs.Sums.{every}
 use Rattle.law.specs.Refusal.{head}
 use Rattle.law.specs.Text.{isDigit, isValue, numberFrom, numberOf}
 use Rattle.law.specs.Reading.{decimalOf, decimal}
+use Rattle.law.proofs.TextLine.{zero-good}
 use Rattle.law.proofs.Tests.{passes, fails, known, never-both, both-left, both-right, both-true}
 use Rattle.law.proofs.Lists.{every-append}
 use Rattle.law.proofs.Question.{within-low, within-high, within-is}
@@ -171,10 +172,6 @@ value-of-digits [] e h l = absurd (omega arith)
 value-of-digits (b ∷ more) e h l =
     rw (ne-eqb b 48 (λ q. omega arith), both-left (isDigit b) _ e, both-right (isDigit b) _ e, le-leb (length more) 4 (omega arith))
 
-value-zero : isValue (48 ∷ []) ≡ true
-unfolding isValue
-value-zero = refl
-
 pub decimal-value : (v : ℕ) → v ≤ 99999 → isValue (decimal v) ≡ true
 unfolding decimal
 decimal-value v h =
@@ -182,7 +179,7 @@ decimal-value v h =
       | yes l ↦ let lead = digits-lead 10 v (omega arith) (omega arith) in
           value-of-digits (decimalOf 10 v) (digits-digits 10 v) lead (digits-most 10 4 v (omega arith))
       | no l ↦ let none : v ≡ 0 = omega arith in
-          ap (λ (z : ℕ). isValue (decimalOf 10 z)) none ∙ ap isValue (decimal-one 9 0 (omega arith)) ∙ value-zero
+          ap (λ (z : ℕ). isValue (decimalOf 10 z)) none ∙ ap isValue (decimal-one 9 0 (omega arith)) ∙ zero-good
     ]
 
 -- what a value is: 0, or a non-zero digit and at most four digits more

@@ -18,7 +18,7 @@ use Rattle.law.proofs.Tests.{both-left, both-right, both-true, bit-most
 use Rattle.law.proofs.Question.{within-low, within-high, within-is}
 use Rattle.law.proofs.Sums.{mapFrom-length, mapFrom-at}
 use Rattle.law.proofs.Table.{clean-well-formed, well-formed-clean}
-use Rattle.law.proofs.Laid.{every-at}
+use Rattle.law.proofs.Lists.{every-at}
 use Rattle.law.proofs.Sound.{row-facts, row-tests, release-sound, advance-sound}
 
 -- ---- the tests of a whole state are the facts at phase 0
