@@ -16,9 +16,8 @@ use super::{input_of, outcome};
 use crate::course::{Compared, Course, Difference};
 use crate::place;
 
-/// Drawn inputs written in one piece, and special ones: every so many.
+/// Drawn inputs written in one piece, good ones and as many of any kind.
 const WHOLE: u32 = 150;
-const SPECIAL_EVERY: usize = 2;
 
 /// Inputs written byte by byte, and in pieces.
 const BYTES: u32 = 25;
@@ -150,8 +149,8 @@ pub fn whole(course: &mut Course) -> Compared {
         let any = report_input(&mut course.rng);
         same_output(course, &any, Way::Whole)?;
     }
-    for input in special_inputs().iter().step_by(SPECIAL_EVERY) {
-        same_output(course, input, Way::Whole)?;
+    for input in special_inputs() {
+        same_output(course, &input, Way::Whole)?;
     }
     for input in longest_inputs(&mut course.rng) {
         same_output(course, &input, Way::Whole)?;
