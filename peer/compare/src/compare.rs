@@ -1,8 +1,10 @@
 //! The comparisons, part by part.
 
+mod counts;
 mod dispatch;
 mod pattern;
 mod promise;
+mod report;
 mod table;
 mod text;
 mod verdict;
@@ -35,8 +37,10 @@ pub fn all() -> impl Iterator<Item = &'static Comparison> {
         table::ALL,
         verdict::ALL,
         dispatch::ALL,
+        counts::ALL,
         promise::ALL,
         text::ALL,
+        report::ALL,
     ];
     parts.into_iter().flatten()
 }

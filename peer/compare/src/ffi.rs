@@ -30,8 +30,10 @@ unsafe extern "C" {
     fn gp_well(state: *const u64, n: usize) -> CAnswer;
     fn gp_tick(state: *mut u64, n: usize) -> CAnswer;
     fn gp_run(state: *mut u64, n: usize, ticks: u32) -> CAnswer;
+    fn gp_counts(state: *const u64, n: usize, row: u32, room: *mut u64, room_n: usize) -> CAnswer;
     fn gp_read(text: *const u8, n: usize, room: *mut u32, room_n: usize) -> CAnswer;
     fn gp_write(words: *const u32, n: usize, room: *mut u8, room_n: usize) -> CAnswer;
+    fn gp_report(input: *const u8, n: usize, room: *mut u8, room_n: usize) -> CAnswer;
 }
 
 /// "A question about one job takes m, k and any 32-bit job number."
@@ -94,6 +96,14 @@ pub fn run(state: &mut [u64], ticks: u32) -> Answer {
     unsafe { gp_run(state.as_mut_ptr(), state.len(), ticks) }.into()
 }
 
+/// The counts of one row of a saved state, in the first seven words of the room.
+#[inline]
+pub fn counts(state: &[u64], row: u32, room: &mut [u64]) -> Answer {
+    let (place, length) = (room.as_mut_ptr(), room.len());
+    // SAFETY: as in [`verdict`], with a state for the table.
+    unsafe { gp_counts(state.as_ptr(), state.len(), row, place, length) }.into()
+}
+
 /// The table of a task text, its words written to the room.
 #[inline]
 pub fn read(text: &[u8], room: &mut [u32]) -> Answer {
@@ -108,6 +118,14 @@ pub fn write(words: &[u32], room: &mut [u8]) -> Answer {
     let (place, length) = (room.as_mut_ptr(), room.len());
     // SAFETY: as in [`verdict`], with bytes for the room's words.
     unsafe { gp_write(words.as_ptr(), words.len(), place, length) }.into()
+}
+
+/// What the printing program prints for an input, its bytes written to the room.
+#[inline]
+pub fn report(input: &[u8], room: &mut [u8]) -> Answer {
+    let (place, length) = (room.as_mut_ptr(), room.len());
+    // SAFETY: as in [`verdict`], with bytes for both.
+    unsafe { gp_report(input.as_ptr(), input.len(), place, length) }.into()
 }
 
 /// [`check`] on words whose surroundings are watched.
@@ -159,6 +177,14 @@ pub fn run_lent(state: &mut Lent<u64>, ticks: u32) -> Answer {
     unsafe { gp_run(place, length, ticks) }.into()
 }
 
+/// [`counts`] on a state and a room whose surroundings are watched.
+pub fn counts_lent(state: &mut Lent<u64>, row: u32, room: &mut Lent<u64>) -> Answer {
+    let (words, words_length) = (state.pointer(), state.len());
+    let (place, length) = (room.pointer(), room.len());
+    // SAFETY: as in [`verdict_lent`].
+    unsafe { gp_counts(words, words_length, row, place, length) }.into()
+}
+
 /// [`read`] on a text and a room whose surroundings are watched.
 pub fn read_lent(text: &mut Lent<u8>, room: &mut Lent<u32>) -> Answer {
     let (bytes, bytes_length) = (text.pointer(), text.len());
@@ -173,4 +199,12 @@ pub fn write_lent(words: &mut Lent<u32>, room: &mut Lent<u8>) -> Answer {
     let (place, length) = (room.pointer(), room.len());
     // SAFETY: as in [`verdict_lent`].
     unsafe { gp_write(table, table_length, place, length) }.into()
+}
+
+/// [`report`] on an input and a room whose surroundings are watched.
+pub fn report_lent(input: &mut Lent<u8>, room: &mut Lent<u8>) -> Answer {
+    let (bytes, bytes_length) = (input.pointer(), input.len());
+    let (place, length) = (room.pointer(), room.len());
+    // SAFETY: as in [`verdict_lent`].
+    unsafe { gp_report(bytes, bytes_length, place, length) }.into()
 }

@@ -11,3 +11,4 @@ pub mod course;
 pub mod draw;
 pub mod ffi;
 pub mod lent;
+pub mod place;

@@ -20,10 +20,10 @@ fn asked(input: &[u8]) -> Result<(u32, Vec<u32>), Answer> {
 
 /// "It prints the verdict, runs N ticks from fresh, and prints counts." The
 /// table is run whether admitted or not.
-fn printed(input: &[u8]) -> Result<Vec<u8>, Answer> {
+fn printed(input: &[u8], judge: fn(&[u32], &mut [u32]) -> Answer) -> Result<Vec<u8>, Answer> {
     let (ticks, words) = asked(input)?;
     let mut responses = [0; ROWS_MAX];
-    let verdict = verdict::verdict(&words, &mut responses);
+    let verdict = judge(&words, &mut responses);
     let mut state = dispatch::fresh(&words)?;
     let ran = dispatch::run(&mut state, ticks);
     if !ran.is_accepted() {
@@ -85,17 +85,30 @@ fn refused(answer: Answer) -> Vec<u8> {
 
 /// All that the printing program prints for an input.
 pub fn report(input: &[u8]) -> Vec<u8> {
-    printed(input).unwrap_or_else(refused)
+    printed(input, verdict::verdict).unwrap_or_else(refused)
+}
+
+/// The same bytes, the response times found by leaps.
+pub fn report_leaping(input: &[u8]) -> Vec<u8> {
+    printed(input, verdict::verdict_leaping).unwrap_or_else(refused)
 }
 
 /// The same bytes into a lent room: 13 when it is too short for them, otherwise
 /// the value is the number of bytes written. A printed refusal is an answer
 /// like any other here.
 pub fn report_into(input: &[u8], room: &mut [u8]) -> Answer {
-    let out = report(input);
+    laid(&report(input), room)
+}
+
+/// The same by leaps.
+pub fn report_leaping_into(input: &[u8], room: &mut [u8]) -> Answer {
+    laid(&report_leaping(input), room)
+}
+
+fn laid(out: &[u8], room: &mut [u8]) -> Answer {
     let Some(room) = room.get_mut(..out.len()) else {
         return Answer::refused(refusal::ROOM_TOO_SHORT);
     };
-    room.copy_from_slice(&out);
+    room.copy_from_slice(out);
     Answer::accepted(out.len() as u64)
 }

@@ -7,7 +7,7 @@ use peer::answer::Answer;
 use peer::brute::report_refusal;
 use peer::dispatch::{fresh, run, spare};
 use peer::gen::{report_input, special_inputs};
-use peer::report::{report, report_into};
+use peer::report::{report, report_into, report_leaping};
 use peer::rng::Rng;
 use peer::text::read;
 use peer::verdict::verdict;
@@ -59,8 +59,10 @@ fn refused(answer: Answer) -> String {
     }
 }
 
-/// The report is what the parts give, or the refusal that the rule gives.
+/// The report is what the parts give, or the refusal that the rule gives; by
+/// leaps it is the same.
 fn agrees(input: &[u8]) -> usize {
+    assert_eq!(report_leaping(input), report(input));
     let out = String::from_utf8(report(input)).unwrap();
     let shown = String::from_utf8_lossy(input);
     match report_refusal(input) {

@@ -5,7 +5,13 @@
 //! The second program's job question is called, not inlined, so that both pay
 //! for one call.
 //!
-//! `--slow` adds a run of 100,000,000 ticks of the first program.
+//! `--slow` adds two runs of the first program: 100,000,000 ticks, and from time 0
+//! to the clock's end.
+
+#[path = "bench/printing.rs"]
+mod printing;
+#[path = "bench/states.rs"]
+mod states;
 
 use std::env;
 use std::hint::black_box;
@@ -75,7 +81,12 @@ fn main() -> ExitCode {
     }
     alike &= fresh(&mut rng) && well(&mut rng);
     alike &= read_longest() && write_longest();
-    alike &= !slow || long_run(&mut rng);
+    for rows in [2, 8, 32] {
+        alike &= states::single_ticks(&mut rng, rows);
+    }
+    alike &= states::counts(&mut rng);
+    alike &= printing::all();
+    alike &= !slow || long_run(&mut rng) && states::clocks_end();
     match alike {
         true => ExitCode::SUCCESS,
         false => ExitCode::FAILURE,

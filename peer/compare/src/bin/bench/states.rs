@@ -1,0 +1,167 @@
+//! Single ticks, the counts of a row, and a run to the clock's end.
+
+use std::hint::black_box;
+use std::time::Instant;
+
+use compare::ffi;
+use peer::answer::{refusal, Answer};
+use peer::counts::{counts_words, COUNT_WORDS};
+use peer::dispatch::{from_words, tick, tick_words, to_words, Row, State, CLOCK_END};
+use peer::pattern;
+use peer::rng::Rng;
+use peer::table::ROWS_MAX;
+
+use super::{begun, busy_tables, line, Saved, ROWS, TABLES, TICKS};
+
+/// Single ticks of each of the tables.
+const SINGLE: usize = 200;
+
+/// The row that is run to the clock's end: id, C, T, D, m, k.
+const END_ROW: [u32; 6] = [1, 5, 7, 6, 3, 5];
+
+/// States in the midst of a run.
+fn underway(rng: &mut Rng, rows: usize) -> Vec<Saved> {
+    let mut states = begun(&busy_tables(rng, rows));
+    for state in &mut states {
+        ffi::run(state, TICKS);
+    }
+    states
+}
+
+/// Calls of a single tick, each of which looks at the whole state first: against
+/// the second program on a state of its own form, and on the same words.
+pub fn single_ticks(rng: &mut Rng, rows: usize) -> bool {
+    let starts = underway(rng, rows);
+    let own = starts.iter().map(|words| from_words(words));
+    let Some(own) = own.collect::<Option<Vec<State>>>() else {
+        println!("bench single_tick no states");
+        return false;
+    };
+    let name = format!("single_tick_{rows}_rows");
+    timed_ticks(&name, &starts, &own, tick, to_words)
+        && timed_ticks(
+            &format!("{name}_words"),
+            &starts,
+            &starts,
+            |words| tick_words(words),
+            |words| *words,
+        )
+}
+
+/// Times both from the same states, and compares those they end in.
+fn timed_ticks<S: Clone>(
+    name: &str,
+    starts: &[Saved],
+    peer_starts: &[S],
+    peer: impl Fn(&mut S) -> Answer,
+    saved: impl Fn(&S) -> Saved,
+) -> bool {
+    let (mut states, mut peer_states) = (starts.to_vec(), peer_starts.to_vec());
+    let mut ours = || {
+        states.copy_from_slice(black_box(starts));
+        for state in &mut states {
+            for _ in 0..SINGLE {
+                black_box(ffi::tick(state));
+            }
+        }
+    };
+    let mut theirs = || {
+        peer_states.clone_from_slice(black_box(peer_starts));
+        for state in &mut peer_states {
+            for _ in 0..SINGLE {
+                black_box(peer(state));
+            }
+        }
+    };
+    line(name, TABLES * SINGLE, &mut ours, &mut theirs);
+    let time = u64::from(TICKS) + SINGLE as u64;
+    let ended = |(ours, peer): (&Saved, &S)| ours[1] == time && *ours == saved(peer);
+    let alike = states.iter().zip(&peer_states).all(ended);
+    if !alike {
+        println!("bench {name} the states differ, from {starts:?}");
+    }
+    alike
+}
+
+/// The counts of every row of a state, from the same words.
+pub fn counts(rng: &mut Rng) -> bool {
+    let states = underway(rng, ROWS);
+    let (mut room, mut peer_room) = ([0; COUNT_WORDS], [0; COUNT_WORDS]);
+    for state in &states {
+        for row in 0..ROWS as u32 {
+            let ours = ffi::counts(state, row, &mut room);
+            let peer = counts_words(state, row, &mut peer_room);
+            if ours != peer || !ours.is_accepted() || room != peer_room {
+                println!("bench counts {row} {state:?} ours {room:?} peer {peer_room:?}");
+                return false;
+            }
+        }
+    }
+    let mut ours = || {
+        for state in black_box(&states) {
+            for row in 0..ROWS as u32 {
+                black_box((ffi::counts(state, row, &mut room), &room));
+            }
+        }
+    };
+    let mut peer = || {
+        for state in black_box(&states) {
+            for row in 0..ROWS as u32 {
+                black_box((counts_words(state, row, &mut peer_room), &peer_room));
+            }
+        }
+    };
+    line("counts", TABLES * ROWS, &mut ours, &mut peer);
+    true
+}
+
+/// The state of one row alone at the clock's end. Each job of it has the processor
+/// from its release on, so every job is met after C ticks; the last is released so
+/// near the end that it is still live.
+fn at_clocks_end() -> Saved {
+    let [id, c, t, d, m, k] = END_ROW;
+    let (settled, past) = (CLOCK_END / t, CLOCK_END % t);
+    let mandatory = pattern::count(m, k, settled) as u32;
+    let mut row = [Row::default(); ROWS_MAX];
+    row[0] = Row {
+        id,
+        c,
+        t,
+        d,
+        m,
+        k,
+        wait: t - past,
+        place: (settled + 1) % k,
+        work: c - past,
+        left: d - past,
+        kind: (pattern::entry(m, k) >> (settled % k) & 1) as u32,
+        window: (1 << k) - 1,
+        released: settled + 1,
+        mm: mandatory,
+        om: settled - mandatory,
+        ..Row::default()
+    };
+    to_words(&State {
+        rows: 1,
+        time: CLOCK_END,
+        idle: settled * (t - c),
+        row,
+    })
+}
+
+/// From time 0 to the clock's end in one call, the state there, and no tick more.
+pub fn clocks_end() -> bool {
+    let mut state = begun(&[END_ROW.to_vec()])[0];
+    let began = Instant::now();
+    let answer = ffi::run(&mut state, CLOCK_END);
+    let seconds = began.elapsed().as_secs_f64();
+    println!("bench run_to_clocks_end_1_row ours {seconds:.2} s");
+    let expected = at_clocks_end();
+    let ran = answer == Answer::accepted(0) && state == expected;
+    let further = [ffi::tick(&mut state), ffi::run(&mut state, 1)];
+    let ended = further == [Answer::refused(refusal::CLOCK); 2] && state == expected;
+    if !ran || !ended {
+        println!("bench run_to_clocks_end_1_row {answer:?} {state:?}, due {expected:?}");
+    }
+    ran && ended
+}

@@ -1,0 +1,309 @@
+//! "The printing program": as a function, every answer and every lent byte, and
+//! as a process, every byte of its standard output.
+//!
+//! What is refused is judged by three where the input is short: the first
+//! program, the second one, and the rule of [`peer::brute`], which has no reader.
+
+mod changes;
+mod far;
+mod inputs;
+mod process;
+mod refusals;
+
+use peer::answer::Answer;
+use peer::brute;
+use peer::report;
+
+use super::Comparison;
+use crate::course::{shown, Compared, Course};
+use crate::draw::byte_room_of;
+use crate::ffi;
+use crate::lent::Lent;
+
+/// Bytes that are always room enough, by the first program's own word.
+const ENOUGH: usize = 5_120;
+
+/// The longest input that the rule is asked about: it tries every beginning.
+const RULED: usize = 80;
+
+/// All that can come of an input when the room is long enough: admitted, 11 for
+/// unschedulable, and the numbers that are printed.
+const EVERY: [u64; 12] = [0, 2, 3, 4, 5, 6, 7, 8, 9, 10, 11, 12];
+
+pub const ALL: &[Comparison] = &[
+    Comparison {
+        name: "report_samples",
+        drawn: true,
+        due: &[0, 11, 12, 13],
+        run: inputs::samples,
+    },
+    Comparison {
+        name: "report_drawn",
+        drawn: true,
+        due: &[0, 11, 13],
+        run: inputs::drawn,
+    },
+    Comparison {
+        name: "report_wide",
+        drawn: true,
+        due: &[0, 11],
+        run: inputs::wide,
+    },
+    Comparison {
+        name: "report_limit",
+        drawn: true,
+        due: &[0, 11],
+        run: inputs::limit,
+    },
+    Comparison {
+        name: "report_misfits",
+        drawn: true,
+        due: &[0, 11],
+        run: inputs::misfits,
+    },
+    Comparison {
+        name: "report_rooms",
+        drawn: true,
+        due: &[4, 11, 12, 13],
+        run: inputs::rooms,
+    },
+    Comparison {
+        name: "report_ticks_values",
+        drawn: true,
+        due: &[0, 2, 12, 13],
+        run: refusals::ticks_values,
+    },
+    Comparison {
+        name: "report_ticks_lines",
+        drawn: true,
+        due: &[0, 2, 3, 12, 13],
+        run: refusals::ticks_lines,
+    },
+    Comparison {
+        name: "report_row_numbers",
+        drawn: true,
+        due: &[2, 3, 12, 13],
+        run: refusals::row_numbers,
+    },
+    Comparison {
+        name: "report_row_faults",
+        drawn: true,
+        due: &[4, 5, 6, 7, 8, 9, 10, 13],
+        run: refusals::row_faults,
+    },
+    Comparison {
+        name: "report_damaged",
+        drawn: true,
+        due: &EVERY,
+        run: refusals::damaged,
+    },
+    Comparison {
+        name: "report_changes_every_byte",
+        drawn: true,
+        due: &[0, 3, 12, 13],
+        run: changes::every_byte,
+    },
+    Comparison {
+        name: "report_changes_telling",
+        drawn: true,
+        due: &[0, 3, 11, 12, 13],
+        run: changes::telling,
+    },
+    Comparison {
+        name: "report_changes_many_rows",
+        drawn: true,
+        due: &[0, 11, 12, 13],
+        run: changes::many_rows,
+    },
+    Comparison {
+        name: "report_ends_early",
+        drawn: true,
+        due: &[12, 13],
+        run: changes::early,
+    },
+    Comparison {
+        name: "report_far",
+        drawn: true,
+        due: &[2, 3, 12, 13],
+        run: far::far,
+    },
+    Comparison {
+        name: "report_near_longest",
+        drawn: true,
+        due: &[4, 11, 12, 13],
+        run: far::near_longest,
+    },
+    Comparison {
+        name: "report_process_whole",
+        drawn: true,
+        due: &[0, 2, 3, 11, 12],
+        run: process::whole,
+    },
+    Comparison {
+        name: "report_process_pieces",
+        drawn: true,
+        due: &[0, 11, 12],
+        run: process::pieces,
+    },
+    Comparison {
+        name: "report_process_nothing",
+        drawn: false,
+        due: &[12],
+        run: process::nothing,
+    },
+    Comparison {
+        name: "report_process_files",
+        drawn: false,
+        due: &[0, 11, 12],
+        run: process::files,
+    },
+    Comparison {
+        name: "report_process_far",
+        drawn: true,
+        due: &[2, 3, 12],
+        run: process::far,
+    },
+];
+
+/// What an input came to, for the count of answers: 0 for an admitted table, 11
+/// for an unschedulable one, and the number that is printed.
+fn outcome(printed: &[u8]) -> Answer {
+    if printed.starts_with(b"verdict=admitted\n") {
+        return Answer::accepted(0);
+    }
+    let number = printed.strip_prefix(b"refused=").map(|rest| {
+        let digits = rest.iter().take_while(|byte| byte.is_ascii_digit());
+        digits.fold(0, |number, byte| 10 * number + u64::from(byte - b'0'))
+    });
+    Answer::refused(number.unwrap_or(11))
+}
+
+/// What the rule has printed for an input that is refused.
+fn ruled(input: &[u8]) -> Option<String> {
+    let answer = brute::report_refusal(input)?;
+    let refused = format!("refused={}\n", answer.refusal);
+    let at = answer.at().map(|at| format!("at={at}\n"));
+    Some(refused + &at.unwrap_or_default())
+}
+
+/// What the second program prints for an input, and what the rule does: nothing
+/// is known of the rule on a long input, and on one that is accepted it does not
+/// say what is printed.
+struct Printed {
+    bytes: Vec<u8>,
+    rule: Option<Option<String>>,
+}
+
+impl Printed {
+    fn of(input: &[u8]) -> Printed {
+        Printed {
+            bytes: report::report(input),
+            rule: (input.len() <= RULED).then(|| ruled(input)),
+        }
+    }
+
+    fn len(&self) -> usize {
+        self.bytes.len()
+    }
+
+    /// Whether the rule has it so.
+    fn is_ruled(&self) -> bool {
+        match &self.rule {
+            None => true,
+            Some(None) => self.bytes.starts_with(b"verdict="),
+            Some(Some(refused)) => refused.as_bytes() == self.bytes,
+        }
+    }
+}
+
+/// The first program's answer for an input lent with these bytes right after it,
+/// into a room, against what the second one prints; and every byte lent.
+fn same_print(
+    course: &mut Course,
+    (input, after): (&[u8], &[u8]),
+    printed: &Printed,
+    room: &[u8],
+) -> Compared {
+    let mut lent_input = Lent::followed(&mut course.rng, input, after);
+    // As many watched bytes as a program that forgets the room's end would fill.
+    let short = vec![b'.'; printed.len().saturating_sub(room.len())];
+    let mut lent_room = Lent::followed(&mut course.rng, room, &short);
+    let first = ffi::report_lent(&mut lent_input, &mut lent_room);
+    let mut filled = room.to_vec();
+    let (peer, counted) = match filled.get_mut(..printed.len()) {
+        Some(start) => {
+            start.copy_from_slice(&printed.bytes);
+            let peer = Answer::accepted(printed.len() as u64);
+            (peer, outcome(&printed.bytes))
+        }
+        None => (Answer::refused(13), Answer::refused(13)),
+    };
+    let same = first == peer && lent_input.holds(input) && lent_room.holds(&filled);
+    course.settle(counted, same && printed.is_ruled(), || {
+        format!(
+            "input of {} bytes, followed by {}:\n{}\nroom of {} bytes before: {}\n\
+             first {} room {}\npeer  {} room {}\nrule  {:?}\naltered beside the room {:?}\n\
+             input after {}\naltered beside the input {:?}",
+            input.len(),
+            after.escape_ascii(),
+            input.escape_ascii(),
+            room.len(),
+            room.escape_ascii(),
+            shown(first),
+            lent_room.words().escape_ascii(),
+            shown(peer),
+            filled.escape_ascii(),
+            printed.rule,
+            lent_room.altered_beside(),
+            lent_input.words().escape_ascii(),
+            lent_input.altered_beside(),
+        )
+    })
+}
+
+/// One input into a drawn room: mostly of the length that is printed or longer,
+/// else short by one byte, by any number, or empty.
+fn same_report(course: &mut Course, input: &[u8]) -> Compared {
+    let printed = Printed::of(input);
+    let rng = &mut course.rng;
+    let needed = printed.len();
+    let length = match rng.below(20) {
+        0 => 0,
+        1 | 2 => needed - 1,
+        3 => rng.index(needed),
+        4..=10 => needed,
+        11 | 12 => needed + 1,
+        13 => ENOUGH,
+        _ => needed + rng.index(100),
+    };
+    let room = byte_room_of(rng, length);
+    same_print(course, (input, &[]), &printed, &room)
+}
+
+/// One input into a room of each of these lengths.
+fn same_report_in(
+    course: &mut Course,
+    input: &[u8],
+    lengths: impl Fn(usize) -> Vec<usize>,
+) -> Compared {
+    let printed = Printed::of(input);
+    for length in lengths(printed.len()) {
+        let room = byte_room_of(&mut course.rng, length);
+        same_print(course, (input, &[]), &printed, &room)?;
+    }
+    Ok(())
+}
+
+/// No byte, one short, just enough, one more, and what is always enough.
+fn near(needed: usize) -> Vec<usize> {
+    vec![0, needed - 1, needed, needed + 1, ENOUGH]
+}
+
+/// An input: the first line, then the text of these words.
+fn input_of(ticks: u32, words: &[u32]) -> Vec<u8> {
+    [
+        format!("ticks={ticks}\n").into_bytes(),
+        peer::text::text_of(words),
+    ]
+    .concat()
+}
