@@ -7,7 +7,7 @@ use Rattle.law.specs.Pattern.{mandatory, count, word}
 use Rattle.law.specs.Table.{Task, kindOf, countOf}
 use Rattle.law.specs.Verdict.{demand, load, fitsAt, response}
 use Rattle.law.specs.Tick.{Row, fresh, release, nextPlace, choose, outcome, advance, shifted, marks, settled, releaseAll, advanceAll, finish, begin, tick, run}
-use Rattle.law.specs.Promise.{after, during, settling, took}
+use Rattle.law.specs.Promise.{stateAfter, during, settling, took}
 
 p5 : List Task
 p5 = record { id = 11; c = 2; t = 4; d = 4; m = 1; k = 2 } ∷ record { id = 12; c = 4; t = 6; d = 6; m = 2; k = 3 } ∷ []
@@ -16,12 +16,12 @@ counts : Row → List ℕ
 counts r =
     r .tally .released ∷ r .tally .mm ∷ r .tally .mx ∷ r .tally .om ∷ r .tally .ox ∷ r .tally .broken ∷ []
 
-sample : map counts (after p5 24 .rows) ≡ (6 ∷ 3 ∷ 0 ∷ 2 ∷ 1 ∷ 0 ∷ []) ∷ (4 ∷ 3 ∷ 0 ∷ 0 ∷ 1 ∷ 0 ∷ []) ∷ []
-unfolding p5 counts after run tick begin finish fresh release nextPlace choose outcome advance shifted marks settled releaseAll advanceAll mapFrom firstFrom among kindOf mandatory ceil
+sample : map counts (stateAfter p5 24 .rows) ≡ (6 ∷ 3 ∷ 0 ∷ 2 ∷ 1 ∷ 0 ∷ []) ∷ (4 ∷ 3 ∷ 0 ∷ 0 ∷ 1 ∷ 0 ∷ []) ∷ []
+unfolding p5 counts stateAfter run tick begin finish fresh release nextPlace choose outcome advance shifted marks settled releaseAll advanceAll mapFrom firstFrom among kindOf mandatory ceil
 sample = refl
 
 p5-responses : response p5 0 ∷ response p5 1 ∷ took p5 0 0 ∷ took p5 1 0 ∷ [] ≡ 2 ∷ 6 ∷ 2 ∷ 6 ∷ []
-unfolding p5 response took during settling fitsAt load demand sum countOf count after run tick begin finish fresh release nextPlace choose outcome advance shifted marks settled releaseAll advanceAll mapFrom firstFrom among kindOf mandatory ceil
+unfolding p5 response took during settling fitsAt load demand sum countOf count stateAfter run tick begin finish fresh release nextPlace choose outcome advance shifted marks settled releaseAll advanceAll mapFrom firstFrom among kindOf mandatory ceil
 p5-responses = refl
 
 -- "The words for (1,1), (2,3) and (3,5) are 1, 3 and 11."

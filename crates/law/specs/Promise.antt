@@ -11,8 +11,8 @@ use Rattle.law.specs.Verdict.{response, admitted}
 use Rattle.law.specs.Tick.{Row, Tally, State, Outcome, nothing, met, missed, coreAt, noRow, live, outcome, choose, fullLength, releaseAll, fresh, run, marks}
 
 -- the state after t ticks from fresh
-unfoldable pub after : List Task → ℕ → State
-after tasks t = run t (fresh tasks)
+unfoldable pub stateAfter : List Task → ℕ → State
+stateAfter tasks t = run t (fresh tasks)
 
 -- the rows in the tick that begins in a state, once it has released
 unfoldable pub during : State → List Row
@@ -38,7 +38,7 @@ tookIn states r i a = firstFrom (λ n. isMet (settling (states (a * r .t + n - 1
 
 -- the same in the run from fresh
 unfoldable pub took : List Task → ℕ → ℕ → ℕ
-took tasks i a = tookIn (after tasks) (row tasks i) i a
+took tasks i a = tookIn (stateAfter tasks) (row tasks i) i a
 
 -- job a of row i finished by its deadline
 unfoldable pub inTime : List Task → ℕ → ℕ → Bool
@@ -57,27 +57,27 @@ pub record MissedFirst (tasks : List Task) (i : ℕ) : Type 0 where
   pub is-row : i < length tasks
   pub above : (j : ℕ) → j < i → inTime tasks j 0 ≡ true
   pub late : inTime tasks i 0 ≡ false
-  pub miss : settling (after tasks (row tasks i .d - 1)) i ≡ missed
+  pub miss : settling (stateAfter tasks (row tasks i .d - 1)) i ≡ missed
 
 -- What a reader has to know of the naming: in the ticks from job a's release to the next one row i has released a + 1 jobs, so whatever is
 -- settled there is job a; it is settled once, by its deadline, and as met exactly when it is in time.
 pub record Named (tasks : List Task) (i a : ℕ) : Type 0 where
-  pub released : (n : ℕ) → n < row tasks i .t → getD (during (after tasks (releaseTick tasks i a + n))) i noRow .tally .released ≡ a + 1
-  pub kind : (n : ℕ) → n < row tasks i .t → live (coreAt (during (after tasks (releaseTick tasks i a + n))) i) ≡ true
-      → coreAt (during (after tasks (releaseTick tasks i a + n))) i .kind ≡ bit (kindOf (row tasks i) a)
+  pub released : (n : ℕ) → n < row tasks i .t → getD (during (stateAfter tasks (releaseTick tasks i a + n))) i noRow .tally .released ≡ a + 1
+  pub kind : (n : ℕ) → n < row tasks i .t → live (coreAt (during (stateAfter tasks (releaseTick tasks i a + n))) i) ≡ true
+      → coreAt (during (stateAfter tasks (releaseTick tasks i a + n))) i .kind ≡ bit (kindOf (row tasks i) a)
   pub once : (n p : ℕ) → n < row tasks i .t → p < row tasks i .t
-      → (settling (after tasks (releaseTick tasks i a + n)) i ≡ nothing → ⊥)
-      → (settling (after tasks (releaseTick tasks i a + p)) i ≡ nothing → ⊥) → n ≡ p
-  pub met-at : inTime tasks i a ≡ true → settling (after tasks (releaseTick tasks i a + took tasks i a - 1)) i ≡ met
-  pub missed-at : inTime tasks i a ≡ false → settling (after tasks (releaseTick tasks i a + row tasks i .d - 1)) i ≡ missed
+      → (settling (stateAfter tasks (releaseTick tasks i a + n)) i ≡ nothing → ⊥)
+      → (settling (stateAfter tasks (releaseTick tasks i a + p)) i ≡ nothing → ⊥) → n ≡ p
+  pub met-at : inTime tasks i a ≡ true → settling (stateAfter tasks (releaseTick tasks i a + took tasks i a - 1)) i ≡ met
+  pub missed-at : inTime tasks i a ≡ false → settling (stateAfter tasks (releaseTick tasks i a + row tasks i .d - 1)) i ≡ missed
 
 -- what a user sees: row i of the state after t ticks
 abbrev pub tallyAfter : List Task → ℕ → ℕ → Tally
-tallyAfter tasks i t = getD (after tasks t .rows) i noRow .tally
+tallyAfter tasks i t = getD (stateAfter tasks t .rows) i noRow .tally
 
 -- the number of row i's jobs that are settled after t ticks
 unfoldable pub settledJobs : List Task → ℕ → ℕ → ℕ
-settledJobs tasks i t = tallyAfter tasks i t .released - bit (live (coreAt (after tasks t .rows) i))
+settledJobs tasks i t = tallyAfter tasks i t .released - bit (live (coreAt (stateAfter tasks t .rows) i))
 
 -- the mark of the b-th newest settled job: whether it was in time; a met mark stands for each job before the first
 unfoldable pub markOf : List Task → ℕ → ℕ → ℕ → ℕ

@@ -89,7 +89,7 @@ module _ (table room : List ℕ) (vs : List ℕ) (e : verdict table (length room
       record {
         ran = runs table (w .vs) (w .good);
         pieces = in-pieces table (w .vs) (w .good);
-        in-time = λ i h. omega (arith, times i h, first-fits i h);
+        soon = λ i h. omega (arith, times i h, first-fits i h);
         meets = λ i a h k d. omega (arith, ticks i a d, times i h, promises .bound i a h k);
         first = λ i h. ticks i 0 (early i h) ∙ promises .first i h ∙ sym (times i h);
         windows = λ i a h d. omega (arith, window-same i a h d, promises .windows i a h);

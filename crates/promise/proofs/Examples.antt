@@ -7,12 +7,12 @@ use Rattle.law.specs.Pattern.{mandatory, count}
 use Rattle.law.specs.Table.{Task, taskOf, tableOf, kindOf, countOf, repeated, faultOf, faulty, rowsChecked, checked}
 use Rattle.law.specs.Verdict.{demand, load, fitsAt, response, fits, misfit, admitted, responses, verdict, verdictRoom}
 use Rattle.law.specs.Tick.{fresh, nextPlace, release, choose, outcome, advance, shifted, marks, settled, releaseAll, advanceAll, finish, begin, tick, run}
-use Rattle.law.specs.Promise.{after, during, settling}
+use Rattle.law.specs.Promise.{stateAfter, during, settling}
 use Rattle.promise.specs.Examples.{Case, shown, mandatoryBelow, verdictShown, outcomeShown, upTo, rowWith, cases, ExamplesHold}
 use Rattle.promise.proofs.Excluded.{p9, p9-never-idle}
 
 table-holds : map (λ (c : Case). shown (c .example)) cases ≡ map (λ (c : Case). c .expected) cases
-unfolding cases shown mandatoryBelow verdictShown outcomeShown upTo ceil sum firstFrom build mapFrom among within mandatory count taskOf tableOf kindOf countOf repeated faultOf faulty rowsChecked checked demand load fitsAt response fits misfit admitted responses verdict verdictRoom fresh nextPlace release choose outcome advance shifted marks settled releaseAll advanceAll finish begin tick run after during settling
+unfolding cases shown mandatoryBelow verdictShown outcomeShown upTo ceil sum firstFrom build mapFrom among within mandatory count taskOf tableOf kindOf countOf repeated faultOf faulty rowsChecked checked demand load fitsAt response fits misfit admitted responses verdict verdictRoom fresh nextPlace release choose outcome advance shifted marks settled releaseAll advanceAll finish begin tick run stateAfter during settling
 table-holds = refl
 
 p9-is : tableOf (rowWith 1 1 1 1 1 1) ≡ p9 ∷ []
@@ -21,4 +21,4 @@ p9-is = refl
 
 pub examples-hold : ExamplesHold
 examples-hold =
-    record { table = table-holds; never-idle = λ n. ap (λ (tasks : List Task). after tasks n .idle) p9-is ∙ p9-never-idle n }
+    record { table = table-holds; never-idle = λ n. ap (λ (tasks : List Task). stateAfter tasks n .idle) p9-is ∙ p9-never-idle n }

@@ -10,7 +10,7 @@ use Rattle.law.specs.Sums.{ceil, firstFrom, mapFrom, among}
 use Rattle.law.specs.Pattern.{mandatory}
 use Rattle.law.specs.Table.{Task, kindOf}
 use Rattle.law.specs.Tick.{Tally, State, noRow, freshCore, freshTally, fresh, nextPlace, release, choose, outcome, advance, shifted, marks, settled, releaseAll, advanceAll, finish, begin, tick, run}
-use Rattle.law.specs.Promise.{after}
+use Rattle.law.specs.Promise.{stateAfter}
 
 -- "P9 one row 1,1,1,1,1"
 abbrev pub p9 : Task
@@ -34,8 +34,8 @@ still (suc n) =
     let s = still n in
     (_, ap tick (s .1) ∙ stands n 0 (s .0) ∙ λ i. standing (add-one n i) 0 (settled 1 1 1 1 (record { window = s .0 .window; released = s .0 .released + 1; mm = s .0 .mm; mx = s .0 .mx; om = s .0 .om; ox = s .0 .ox; broken = s .0 .broken })))
 
-pub p9-never-idle : (n : ℕ) → after (p9 ∷ []) n .idle ≡ 0
-unfolding after
+pub p9-never-idle : (n : ℕ) → stateAfter (p9 ∷ []) n .idle ≡ 0
+unfolding stateAfter
 p9-never-idle n = ap (λ (s : State). s .idle) (still n .1)
 
 -- a state of which only the clock moves

@@ -8,7 +8,7 @@ use Rattle.law.specs.Refusal.{accepted}
 use Rattle.law.specs.Table.{tableOf, checked}
 use Rattle.law.specs.Tick.{State, fresh, run, clockEnd}
 use Rattle.law.specs.State.{stateOf, laid, runAnswer, runWords}
-use Rattle.law.specs.Promise.{after, settling, isMet, took}
+use Rattle.law.specs.Promise.{stateAfter, settling, isMet, took}
 use Rattle.law.proofs.First.{first-same}
 use Rattle.law.proofs.Laid.{state-laid}
 use Rattle.dispatch.proofs.Begun.{begun-laid, begun-runs, begun-run, begun-pieces}
@@ -28,8 +28,8 @@ module _ (table vs : List ℕ) (good : checked table ≡ accepted vs) where
   in-pieces t u h = begun-pieces table vs good t u h
 
   -- the words say the state after t ticks
-  pub seen-is : (t : ℕ) → t ≤ clockEnd → seenAt table t ≡ after (tableOf table) t
-  unfolding seenAt after begun
+  pub seen-is : (t : ℕ) → t ≤ clockEnd → seenAt table t ≡ stateAfter (tableOf table) t
+  unfolding seenAt stateAfter begun
   seen-is t h = ap stateOf (begun-run table vs good t h) ∙ state-laid (run t (fresh (tableOf table)))
 
   -- so a job whose deadline has come by the clock's end took what the theory says

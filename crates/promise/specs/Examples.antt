@@ -9,7 +9,7 @@ use Rattle.law.specs.Pattern.{mandatory}
 use Rattle.law.specs.Table.{tableOf}
 use Rattle.law.specs.Verdict.{load, verdict, verdictRoom}
 use Rattle.law.specs.Tick.{Outcome, nothing, met, missed}
-use Rattle.law.specs.Promise.{after, settling}
+use Rattle.law.specs.Promise.{stateAfter, settling}
 
 -- What an example asks: which of the first n jobs of (m,k) are mandatory; the verdict on words, with a room of 32 words; the load of row i at t;
 -- what becomes of row i at time u.
@@ -37,7 +37,7 @@ unfoldable pub shown : Example → List ℕ
 shown (jobs m k n) = mandatoryBelow m k n
 shown (judged words) = verdictShown (verdict words 32) (take (length (tableOf words)) (verdictRoom words (replicate 32 0)))
 shown (loaded words i t) = load (tableOf words) i t ∷ []
-shown (settled words i u) = outcomeShown (settling (after (tableOf words) (u - 1)) i) ∷ []
+shown (settled words i u) = outcomeShown (settling (stateAfter (tableOf words) (u - 1)) i) ∷ []
 
 -- a row of words, the id first
 abbrev pub rowWith : ℕ → ℕ → ℕ → ℕ → ℕ → ℕ → List ℕ
@@ -85,4 +85,4 @@ cases =
 -- The one statement: every case of the table gives what document 01 says, and P9 is "never idle", however long it runs.
 pub record ExamplesHold : Type 0 where
   pub table : map (λ (c : Case). shown (c .example)) cases ≡ map (λ (c : Case). c .expected) cases
-  pub never-idle : (n : ℕ) → after (tableOf (rowWith 1 1 1 1 1 1)) n .idle ≡ 0
+  pub never-idle : (n : ℕ) → stateAfter (tableOf (rowWith 1 1 1 1 1 1)) n .idle ≡ 0

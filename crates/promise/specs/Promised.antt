@@ -42,14 +42,14 @@ abbrev pub deadlineOf : List ℕ → ℕ → ℕ → ℕ
 deadlineOf table i a = a * rowIn table i .t + rowIn table i .d
 
 -- "any run from fresh, up to the clock's end": every such run is made, and one made in pieces, tick by tick at the least, hands back the same words.
--- "every mandatory job whose deadline has come finished by it, none took longer than its row's reported response time" (`meets` with `in-time`);
+-- "every mandatory job whose deadline has come finished by it, none took longer than its row's reported response time" (`meets` with `soon`);
 -- "any k consecutive jobs of a task whose deadlines have all come include at least m finished in time" (`windows`);
 -- the first job takes just the response time; and in every state that a user sees no mandatory job was missed, no window broke, and each
 -- window holds at least m met marks.
 pub record Promised (table room : List ℕ) : Type 0 where
   pub ran : (t : ℕ) → t ≤ clockEnd → runAnswer (begun table) t ≡ accepted []
   pub pieces : (t u : ℕ) → t + u ≤ clockEnd → runWords (runWords (begun table) t) u ≡ runWords (begun table) (t + u)
-  pub in-time : (i : ℕ) → i < rowsIn table → reported table room i ≤ rowIn table i .d
+  pub soon : (i : ℕ) → i < rowsIn table → reported table room i ≤ rowIn table i .d
   pub meets : (i a : ℕ) → i < rowsIn table → kindOf (rowIn table i) a ≡ true → deadlineOf table i a ≤ clockEnd
       → tookTicks table i a ≤ reported table room i
   pub first : (i : ℕ) → i < rowsIn table → tookTicks table i 0 ≡ reported table room i

@@ -12,7 +12,7 @@ use Rattle.law.specs.Table.{Task, Ranged, noTask, row, kindOf}
 use Rattle.law.specs.Verdict.{response, fits, misfit, admitted}
 use Rattle.law.specs.Tick.{Row, Tally, Outcome, nothing, met, missed, freshRow, freshTally, fresh, noRow, coreAt, live, choose, outcome}
 use Rattle.law.specs.Tick.{fullLength, releaseAll}
-use Rattle.law.specs.Promise.{after, during, settling, isMet, releaseTick, took, inTime, tallyAfter, settledJobs, markOf}
+use Rattle.law.specs.Promise.{stateAfter, during, settling, isMet, releaseTick, took, inTime, tallyAfter, settledJobs, markOf}
 use Rattle.law.specs.Promise.{Kept, MissedFirst, Named, Marked, Seen}
 use Rattle.law.proofs.First.{first-cong}
 use Rattle.law.proofs.Sums.{among-mono}
@@ -51,11 +51,11 @@ module _ (tasks : List Task) where
   unfolding runWith
   blank i = ap (λ r. r .tally) (fresh-at i)
 
-  pub after-is : (t : ℕ) → after tasks t .rows ≡ runWith (fullWork tasks) t (map freshRow tasks)
-  unfolding after fresh
+  pub after-is : (t : ℕ) → stateAfter tasks t .rows ≡ runWith (fullWork tasks) t (map freshRow tasks)
+  unfolding stateAfter fresh
   after-is t = run-full t (fresh tasks)
 
-  pub during-is : (t : ℕ) → during (after tasks t) ≡ duringWith (fullWork tasks) t (map freshRow tasks)
+  pub during-is : (t : ℕ) → during (stateAfter tasks t) ≡ duringWith (fullWork tasks) t (map freshRow tasks)
   unfolding during
   during-is t =
       let rows : List Row = runWith (fullWork tasks) t (map freshRow tasks) in
@@ -67,12 +67,12 @@ module _ (tasks : List Task) where
     row-during : (t : ℕ) → i < length (runWith (fullWork tasks) t (map freshRow tasks))
     row-during t = still-row tasks (fullWork tasks) (map freshRow tasks) fresh-clean t i h
 
-    core-is : (t : ℕ) → coreAt (during (after tasks t)) i ≡ inTick (freshCourse tasks) t i
+    core-is : (t : ℕ) → coreAt (during (stateAfter tasks t)) i ≡ inTick (freshCourse tasks) t i
     core-is t =
         ap (λ (rows : List Row). coreAt rows i) (during-is t)
         ∙ released-core tasks (fullWork tasks) (map freshRow tasks) fresh-clean t i h
 
-    settling-is : (t : ℕ) → settling (after tasks t) i ≡ ending (freshCourse tasks) t i
+    settling-is : (t : ℕ) → settling (stateAfter tasks t) i ≡ ending (freshCourse tasks) t i
     unfolding settling
     settling-is t =
         rw (core-is t) (ap (λ (rows : List Row). outcome (eqb i (choose rows)) (inTick (freshCourse tasks) t i)) (during-is t))
@@ -103,36 +103,36 @@ module _ (tasks : List Task) (ranged : (i : ℕ) → i < length tasks → Ranged
 
   -- Any table: which job is settled when.
   module _ (i a : ℕ) (h : i < length tasks) where
-    released-count : (n : ℕ) → n < row tasks i .t → getD (during (after tasks (releaseTick tasks i a + n))) i noRow .tally .released ≡ a + 1
+    released-count : (n : ℕ) → n < row tasks i .t → getD (during (stateAfter tasks (releaseTick tasks i a + n))) i noRow .tally .released ≡ a + 1
     released-count n l =
         let t : ℕ = releaseTick tasks i a + n in
         ap (λ (rows : List Row). getD rows i noRow .tally .released) (during-is tasks t)
         ∙ ap (λ r. r .tally .released) (released-at (fullWork tasks t) (runWith (fullWork tasks) t (map freshRow tasks)) i (row-during tasks i h t))
         ∙ released-in fresh-trace fresh-tallied i h a n l ∙ omega (arith, ap (λ y. y .released) (blank tasks i))
 
-    kind-live : (n : ℕ) → n < row tasks i .t → live (coreAt (during (after tasks (releaseTick tasks i a + n))) i) ≡ true
-        → coreAt (during (after tasks (releaseTick tasks i a + n))) i .kind ≡ bit (kindOf (row tasks i) a)
+    kind-live : (n : ℕ) → n < row tasks i .t → live (coreAt (during (stateAfter tasks (releaseTick tasks i a + n))) i) ≡ true
+        → coreAt (during (stateAfter tasks (releaseTick tasks i a + n))) i .kind ≡ bit (kindOf (row tasks i) a)
     kind-live n l =
         rw (core-is tasks i h (releaseTick tasks i a + n))
         (λ e. live-kind fresh-trace i h a n l (ltb-true 0 (inTick (freshCourse tasks) (releaseTick tasks i a + n) i .work) e))
 
-    settling-last : (n : ℕ) → n < row tasks i .t → (settling (after tasks (releaseTick tasks i a + n)) i ≡ nothing → ⊥)
+    settling-last : (n : ℕ) → n < row tasks i .t → (settling (stateAfter tasks (releaseTick tasks i a + n)) i ≡ nothing → ⊥)
         → suc n ≡ lifeIn (freshCourse tasks) i a
     settling-last n l s = settled-last fresh-trace i h a n l (λ e. s (settling-is tasks i h (releaseTick tasks i a + n) ∙ e))
 
     settling-at : (n : ℕ) (o : Outcome) → 1 ≤ n → endIn (freshCourse tasks) i a (n - 1) ≡ o
-        → settling (after tasks (releaseTick tasks i a + n - 1)) i ≡ o
+        → settling (stateAfter tasks (releaseTick tasks i a + n - 1)) i ≡ o
     settling-at n o l e =
         settling-is tasks i h (releaseTick tasks i a + n - 1) ∙ ap (λ (z : ℕ). ending (freshCourse tasks) z i) (omega arith) ∙ e
 
-    settling-met : inTime tasks i a ≡ true → settling (after tasks (releaseTick tasks i a + took tasks i a - 1)) i ≡ met
+    settling-met : inTime tasks i a ≡ true → settling (stateAfter tasks (releaseTick tasks i a + took tasks i a - 1)) i ≡ met
     settling-met e =
         rw (took-is tasks i h a)
         (settling-at (tookIn (freshCourse tasks) i a) met (took-low fresh-trace i h a)
         (met-then fresh-trace i h a _ (omega (arith, took-low fresh-trace i h a))
         (in-time-took (freshCourse tasks) i a (sym (in-time-is tasks i h a) ∙ e))))
 
-    settling-missed : inTime tasks i a ≡ false → settling (after tasks (releaseTick tasks i a + row tasks i .d - 1)) i ≡ missed
+    settling-missed : inTime tasks i a ≡ false → settling (stateAfter tasks (releaseTick tasks i a + row tasks i .d - 1)) i ≡ missed
     settling-missed e =
         settling-at (row tasks i .d) missed (ranged i h .d-low)
         (missed-then fresh-trace i h a _ (omega (arith, ranged i h .d-low))
@@ -236,7 +236,7 @@ module _ (tasks : List Task) (ranged : (i : ℕ) → i < length tasks → Ranged
           is-row = h;
           above = λ j l. mandatory-in-time j 0 (omega arith) (above-fit j l) (pattern-of (ranged j (omega arith)) .first);
           late = first-late;
-          miss = ap (λ (z : ℕ). settling (after tasks z) i) (omega arith) ∙ settling-missed i 0 h first-late;
+          miss = ap (λ (z : ℕ). settling (stateAfter tasks z) i) (omega arith) ∙ settling-missed i 0 h first-late;
         }
 
   pub missed-when-refused : admitted tasks ≡ false → MissedFirst tasks (misfit tasks)
