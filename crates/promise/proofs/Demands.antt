@@ -20,6 +20,7 @@ use Rattle.law.proofs.Sums.{among-same}
 use Rattle.law.proofs.Verdict.{pattern-of, AdmittedBy, admitted-says, LateBy, late-says, verdict-admitted}
 use Rattle.theory.proofs.Demand.{kept, missed-first, seen}
 use Rattle.promise.specs.Promised.{reported, rowsIn, rowIn, tookTicks, deadlineOf, Promised, TurnedDown}
+use Rattle.promise.proofs.FirstMiss.{first-miss}
 use Rattle.promise.proofs.Runs.{runs, in-pieces, seen-is, took-is}
 
 admitted-all : (tasks : List Task) → admitted tasks ≡ true → misfit tasks ≡ length tasks
@@ -120,4 +121,5 @@ module _ (table : List ℕ) (room i : ℕ) (e : verdict table room ≡ refused 1
         above = λ j l. omega (arith, first-took j (omega (arith, late .in-table)), leb-true (took (tableOf table) j 0) (rowIn table j .d) (sym (in-time-is (tableOf table) j 0) ∙ missing .above j l));
         late = omega (arith, first-took i (late .in-table), leb-false (took (tableOf table) i 0) (rowIn table i .d) (sym (in-time-is (tableOf table) i 0) ∙ missing .late));
         miss = ap (λ (z : State). settling z i) (seen-is table (late .vs) (late .good) (rowIn table i .d - 1) (omega (arith, g .d-high, g .t-high))) ∙ missing .miss;
+        counted = ap (λ (z : State). getD (z .rows) i noRow .tally .mx) (seen-is table (late .vs) (late .good) (rowIn table i .d) (omega (arith, g .d-high, g .t-high))) ∙ first-miss (tableOf table) formed i missing;
       }

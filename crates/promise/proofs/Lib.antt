@@ -1,4 +1,5 @@
 pub mod Runs
+pub mod FirstMiss
 pub mod Demands
 pub mod Excluded
 pub mod Examples

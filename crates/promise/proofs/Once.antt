@@ -1,7 +1,6 @@
 -- Two results that a public contract allows are equal: each answer enum can be told from what its reading as an answer says, so an equation of the
 -- reading leaves one result; and a state by value is told by its words.
-use mathlib.Core.Bool.{Bool}
-use mathlib.Core.List.{List, [], _∷_}
+use mathlib.Core.List.{List}
 use mathlib.Core.Path.{_≡_, refl, sym, ap, _∙_}
 use Prim.Native.Nat.{ℕ}
 use lib.Dec.{eqb}

@@ -1,15 +1,14 @@
 -- Demand 2 on task text, from the law's round trips: what is written reads back, and what is accepted is rewritten.
-use mathlib.Core.List.{List, [], _∷_, _++_}
-use mathlib.Core.Path.{_≡_, sym, ap, _∙_, subst}
+use mathlib.Core.List.{List, [], _∷_}
+use mathlib.Core.Path.{_≡_, sym, ap, _∙_}
 use Prim.Native.Nat.{ℕ, _*_, _/_, _≤_}
-use native.Mathlib.Omega.{arith}
-use lib.ListN.{length, take, drop}
+use lib.ListN.{length, take}
 use lib.Seq.{take-at}
-use Rattle.law.specs.Refusal.{accepted, head, valueOf}
-use Rattle.law.specs.Table.{tableOf, checked}
+use Rattle.law.specs.Refusal.{accepted, head}
+use Rattle.law.specs.Table.{tableOf}
 use Rattle.law.specs.Text.{rowKeys}
-use Rattle.law.specs.Reading.{readAnswer, readRoom, wordsRead, textOf, writeAnswer, writeRoom}
-use Rattle.law.proofs.Table.{table-length, checked-accepted}
+use Rattle.law.specs.Reading.{readAnswer, wordsRead, textOf, writeAnswer}
+use Rattle.law.proofs.Table.{table-length}
 use Rattle.law.proofs.Words.{table-rows}
 use Rattle.law.proofs.TextAnswers.{read-filled, write-filled, WrittenBy, write-says}
 use Rattle.law.proofs.TextTrips.{Trip, write-read, read-write, read-write-answer}

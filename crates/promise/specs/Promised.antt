@@ -60,10 +60,11 @@ pub record Promised (table room : List ℕ) : Type 0 where
   pub enough : (i t : ℕ) → i < rowsIn table → t ≤ clockEnd
       → rowIn table i .m ≤ marks (rowIn table i .k) (getD (seenAt table t .rows) i noRow .tally .window)
 
--- "i is the first row from the top whose first job misses its deadline in that same dispatcher"
+-- "i is the first row from the top whose first job misses its deadline in that same dispatcher"; after D ticks a user sees the miss in row i's counts
 pub record TurnedDown (table : List ℕ) (i : ℕ) : Type 0 where
   pub is-row : i < rowsIn table
   pub ran : (t : ℕ) → t ≤ clockEnd → runAnswer (begun table) t ≡ accepted []
   pub above : (j : ℕ) → j < i → tookTicks table j 0 ≤ rowIn table j .d
   pub late : rowIn table i .d < tookTicks table i 0
   pub miss : settling (seenAt table (rowIn table i .d - 1)) i ≡ missed
+  pub counted : getD (seenAt table (rowIn table i .d) .rows) i noRow .tally .mx ≡ 1
