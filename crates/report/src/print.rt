@@ -53,7 +53,7 @@ pub fn print_refusal(out: &mut [u8], r: Refusal, start: u64) -> usize
 }
 
 // The lines of a row: its number, id and response time, its counts and spare.
-pub fn print_row(out: &mut [u8], at: usize, i: usize, id: u64, r: u64, c: Counts) -> usize
+fn print_row(out: &mut [u8], at: usize, i: usize, id: u64, r: u64, c: Counts) -> usize
     requires { ⌜ (at + 153 ≤ length (now out)) × (Small (i ∷ id ∷ r ∷ countsSaid c)) ⌝ }
     ensures place { λ n. ⌜ n ≡ at + length (numberLines printedKeys (i ∷ id ∷ r ∷ countsSaid c)) ⌝ }
     ensures bytes { λ n. ⌜ now (out .exit) ≡ putAt (now (out .entry)) at (numberLines printedKeys (i ∷ id ∷ r ∷ countsSaid c)) ⌝ }

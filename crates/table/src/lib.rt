@@ -78,7 +78,7 @@ pub fn row_fault(r: Task, twice: bool) -> u64
 }
 
 // The refusal of a row, by its number.
-pub fn row_refusal(number: u64, row: u64) -> Refusal
+fn row_refusal(number: u64, row: u64) -> Refusal
     requires { ⌜ (4 ≤ number) × (number ≤ 10) ⌝ }
     ensures { λ r. ⌜ refusalShown r ≡ refused number (row ∷ []) ⌝ }
 {

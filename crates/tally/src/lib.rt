@@ -28,7 +28,7 @@ fn shift(window: u64, mark: u64, k: u64) -> u64
 }
 
 // The met marks of a window.
-pub fn marks_in(window: u64, k: u64) -> u64
+fn marks_in(window: u64, k: u64) -> u64
     requires { ⌜ window < 2 ^ k ⌝ }
     ensures { λ r. ⌜ r ≡ marks k window ⌝ }
 {
@@ -65,7 +65,7 @@ pub fn spare(window: u64, m: u64, k: u64) -> u64
 
 // The tally after a job of that kind is settled, with mark 1 for met and 0 for missed: the window shifts, one count goes up, and
 // a window that then holds fewer than m met marks is counted as broken.
-pub fn settle(y: Tally, kind: u64, mark: u64, m: u64, k: u64) -> Tally
+fn settle(y: Tally, kind: u64, mark: u64, m: u64, k: u64) -> Tally
     requires { ⌜ (InRange m k) × (mark ≤ 1) × (Countable k (tallySaid y)) ⌝ }
     ensures { λ r. ⌜ tallySaid r ≡ settled m k kind mark (tallySaid y) ⌝ }
 {
@@ -82,7 +82,7 @@ pub fn settle(y: Tally, kind: u64, mark: u64, m: u64, k: u64) -> Tally
 }
 
 // The settling routine: it is lent a row's tally and amends it.
-pub fn settle_in(y: &mut Tally, kind: u64, mark: u64, m: u64, k: u64)
+fn settle_in(y: &mut Tally, kind: u64, mark: u64, m: u64, k: u64)
     requires { ⌜ (InRange m k) × (mark ≤ 1) × (Countable k (tallySaid (now y))) ⌝ }
     ensures { λ _. ⌜ tallySaid (now (y .exit)) ≡ settled m k kind mark (tallySaid (now (y .entry))) ⌝ }
 {

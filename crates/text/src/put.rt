@@ -20,7 +20,7 @@ fn digits_in(v: u64) -> usize
 }
 
 // The digits of a number, the last one first; answers the place after them.
-pub fn put_decimal(out: &mut [u8], at: usize, v: u64) -> usize
+fn put_decimal(out: &mut [u8], at: usize, v: u64) -> usize
     requires { ⌜ (v ≤ 4294967295) × (at + length (decimal v) ≤ length (now out)) ⌝ }
     ensures place { λ r. ⌜ r ≡ at + length (decimal v) ⌝ }
     ensures bytes { λ r. ⌜ now (out .exit) ≡ putAt (now (out .entry)) at (decimal v) ⌝ }

@@ -16,14 +16,14 @@ pub struct Reader<'a> {
 }
 
 // A reader of a text, from a place on.
-pub fn reader_at<'a>(text: &'a [u8], at: usize) -> Reader<'a>
+fn reader_at<'a>(text: &'a [u8], at: usize) -> Reader<'a>
     ensures { λ r. ⌜ (r .text ≡ text .entry) × (r .at ≡ at) ⌝ }
 {
     Reader { text, at }
 }
 
 // The value of the line that is due at the reader's place, j being its number within its row.
-pub fn next_value<'a>(r: Reader<'a>, j: usize) -> Value
+fn next_value<'a>(r: Reader<'a>, j: usize) -> Value
     requires { ⌜ (r .at ≤ length (now (r .text))) × (j < 6) ⌝ }
     ensures { λ v. ⌜ said v ≡ lineAt (now (r .entry .text)) (r .entry .at) (getD rowKeys j []) ⌝ }
 {

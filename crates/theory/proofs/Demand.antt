@@ -18,6 +18,7 @@ use Rattle.law.proofs.First.{first-cong}
 use Rattle.law.proofs.Sums.{among-mono}
 use Rattle.law.proofs.Tests.{passes, fails, known}
 use Rattle.law.proofs.Verdict.{pattern-of}
+use Rattle.theory.specs.Stated.{Stated}
 use Rattle.theory.proofs.Rows.{runWith, run-full, full-stays, released-at}
 use Rattle.theory.proofs.Fits.{response-late, fits-above, misfit-fails, admitted-fits, refused-row}
 use Rattle.theory.proofs.Trace.{Course, inTick, ending, Trace, Clean, duringWith, courseOf, still-row, released-core, trace-of}
@@ -241,3 +242,13 @@ module _ (tasks : List Task) (ranged : (i : ℕ) → i < length tasks → Ranged
 
   pub missed-when-refused : admitted tasks ≡ false → MissedFirst tasks (misfit tasks)
   missed-when-refused e = missed-first (misfit tasks) refl (refused-row tasks e)
+
+  pub stated : Stated tasks
+  stated =
+      record {
+        kept = kept;
+        seen = seen;
+        turned-down = missed-when-refused;
+        named = named;
+        marked = marked;
+      }

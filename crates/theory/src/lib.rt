@@ -1,1 +1,1 @@
-// Demand 3 over the law's definitions: pure theory, no code. The statements stand in law/specs/Promise.antt, their proofs in proofs/.
+// Demand 3 over the definitions of the law: pure theory, no code. What is proved stands in specs/Stated.antt, in the words of law/specs/Promise.antt.

@@ -159,7 +159,7 @@ fn count_tick(words: &mut [u64], idle: bool)
 }
 
 // One tick: the releases, the choice, the work and the settling.
-pub fn tick(words: &mut [u64], patterns: &[u64])
+fn tick(words: &mut [u64], patterns: &[u64])
     requires { ⌜ (Held 0 (now words)) × (stateOf (now words) .time < clockEnd) × (Fetched (stateOf (now words) .rows) (now patterns)) ⌝ }
     ensures { λ _. ⌜ now (words .exit) ≡ laid (tickLaw (stateOf (now (words .entry)))) ⌝ }
 {

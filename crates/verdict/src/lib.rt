@@ -65,7 +65,7 @@ fn load(words: &[u32], row: usize, t: u64) -> u64
 }
 
 // The first tick that fits a row. Where the load at t is above t, no tick up to that load fits: the search goes on there.
-pub fn search(words: &[u32], row: usize) -> Fit
+fn search(words: &[u32], row: usize) -> Fit
     requires { ⌜ (WellFormed (tableOf (now words))) × (row < length (tableOf (now words))) ⌝ }
     ensures { λ r. ⌜ r ≡ fitOf (tableOf (now (words .entry))) row ⌝ }
 {
@@ -84,7 +84,7 @@ pub fn search(words: &[u32], row: usize) -> Fit
 }
 
 // The response times, row by row from the top, up to the first row that doesn't fit.
-pub fn respond(words: &[u32]) -> Responses
+fn respond(words: &[u32]) -> Responses
     requires { ⌜ WellFormed (tableOf (now words)) ⌝ }
     ensures first { λ r. ⌜ r .misfit ≡ misfit (tableOf (now (words .entry))) ⌝ }
     ensures length { λ r. ⌜ length (r .times) ≡ 32 ⌝ }

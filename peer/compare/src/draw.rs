@@ -5,7 +5,9 @@ mod states;
 mod tables;
 mod texts;
 
-pub use limit::{full_table, limit_pair, short_cycle_pair, slow_table, LimitPair, Shape};
+pub use limit::{
+    any_shape, full_table, limit_pair, short_cycle_pair, slow_table, LimitPair, Shape,
+};
 pub use states::{every_bit, row_counts, state_lengths, state_room, state_room_of, ticks};
 pub use tables::{any_table, damaged, faults_in, off_six, rubbish, run_table, sound, FAULTS};
 pub use texts::{any_values, byte_room, byte_room_of, changed, deleted, inserted, miswritten};
@@ -74,16 +76,22 @@ pub fn any_word(rng: &mut Rng) -> u32 {
     }
 }
 
+/// The length of a room for so much, mostly long enough: on both sides of the
+/// limit, and up to `spare` past it.
+pub fn room_length(rng: &mut Rng, needed: usize, spare: usize) -> usize {
+    match rng.below(20) {
+        0 => 0,
+        1 | 2 => needed.saturating_sub(1),
+        3 => rng.index(needed + 1),
+        4..=10 => needed,
+        11..=13 => needed + 1,
+        _ => needed + rng.index(spare),
+    }
+}
+
 /// A room for the answer on so many rows, mostly long enough.
 pub fn room(rng: &mut Rng, rows: usize) -> Vec<u32> {
-    let length = match rng.below(20) {
-        0 => 0,
-        1 | 2 => rows.saturating_sub(1),
-        3 => rng.index(rows + 1),
-        4..=10 => rows,
-        11..=13 => rows + 1,
-        _ => rows + rng.index(40),
-    };
+    let length = room_length(rng, rows, 40);
     room_of(rng, length)
 }
 

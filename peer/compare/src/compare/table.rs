@@ -104,22 +104,28 @@ fn empty_slices(course: &mut Course) -> Compared {
     Ok(())
 }
 
-/// Each word of tables of several sizes at every edge, at the neighbours of the
-/// row's own words, and at the ids of the other rows.
+/// Each word of a table at every edge, at the neighbours of the row's own words,
+/// and at the ids of the other rows.
+pub fn each_word_moved(well: &[u32], mut same: impl FnMut(&[u32]) -> Compared) -> Compared {
+    for at in 0..well.len() {
+        let row = at / ROW_WORDS * ROW_WORDS;
+        let own = &well[row..row + ROW_WORDS];
+        let near = own.iter().flat_map(|&word| [word - 1, word, word + 1]);
+        let ids = well.iter().step_by(ROW_WORDS).copied();
+        for value in near.chain(ids).chain(EDGES) {
+            let mut words = well.to_vec();
+            words[at] = value;
+            same(&words)?;
+        }
+    }
+    Ok(())
+}
+
+/// Each word of tables of several sizes, moved.
 fn fields(course: &mut Course) -> Compared {
     for rows in [1, 2, 3, 7, ROWS_MAX - 1, ROWS_MAX] {
         let well = sound(&mut course.rng, rows, T_SHORT);
-        for at in 0..well.len() {
-            let row = at / ROW_WORDS * ROW_WORDS;
-            let own = &well[row..row + ROW_WORDS];
-            let near = own.iter().flat_map(|&word| [word - 1, word, word + 1]);
-            let ids = well.iter().step_by(ROW_WORDS).copied();
-            for value in near.chain(ids).chain(EDGES) {
-                let mut words = well.clone();
-                words[at] = value;
-                same_table(course, &words)?;
-            }
-        }
+        each_word_moved(&well, |words| same_table(course, words))?;
     }
     Ok(())
 }

@@ -16,6 +16,16 @@ pub struct Shape {
     pub t_high: u32,
 }
 
+/// Any number of rows, with periods that leave each row some work.
+pub fn any_shape(rng: &mut Rng) -> Shape {
+    let rows = 1 + rng.index(ROWS_MAX);
+    Shape {
+        rows,
+        t_low: 4 * rows as u32,
+        t_high: 20 * rows as u32,
+    }
+}
+
 /// Two tables that differ in one row's C, by one.
 pub struct LimitPair {
     /// Admitted, close to full load.

@@ -4,7 +4,7 @@ use peer::gen::{faulty_table, loaded_table, table, tiny_table};
 use peer::rng::Rng;
 use peer::table::{ROWS_MAX, ROW_WORDS, WORD_MAX};
 
-use super::{limit_pair, Shape, EDGES};
+use super::{any_shape, limit_pair, EDGES};
 
 /// Places of the words of a row: "id, C, T, D, m, k".
 const ID: usize = 0;
@@ -66,12 +66,7 @@ pub fn run_table(rng: &mut Rng) -> Vec<u32> {
             sound(rng, rows, 60)
         }
         kind => {
-            let rows = 1 + rng.index(ROWS_MAX);
-            let shape = Shape {
-                rows,
-                t_low: 4 * rows as u32,
-                t_high: 20 * rows as u32,
-            };
+            let shape = any_shape(rng);
             let pair = limit_pair(rng, shape);
             if kind == 6 {
                 pair.within

@@ -5,7 +5,7 @@ use peer::rng::Rng;
 use peer::table::{ROWS_MAX, ROW_WORDS, WORD_MAX};
 use peer::text::{text_of, KEYS};
 
-use super::{sound, EDGES};
+use super::{room_length, sound, EDGES};
 
 /// The largest number that a value can name.
 pub const VALUE_MAX: u32 = 99_999;
@@ -165,14 +165,7 @@ pub fn rubbish_after(rng: &mut Rng) -> Vec<u8> {
 
 /// A room for a text of so many bytes, mostly long enough.
 pub fn byte_room(rng: &mut Rng, needed: usize) -> Vec<u8> {
-    let length = match rng.below(20) {
-        0 => 0,
-        1 | 2 => needed.saturating_sub(1),
-        3 => rng.index(needed + 1),
-        4..=10 => needed,
-        11..=13 => needed + 1,
-        _ => needed + rng.index(100),
-    };
+    let length = room_length(rng, needed, 100);
     byte_room_of(rng, length)
 }
 

@@ -7,7 +7,7 @@ use peer::table::{ROWS_MAX, ROW_WORDS};
 
 use super::{input_of, near, same_report, same_report_in, ENOUGH};
 use crate::course::{shown, Compared, Course, Difference};
-use crate::draw::{limit_pair, slow_table, sound, Shape, VALUE_MAX};
+use crate::draw::{any_shape, limit_pair, slow_table, sound, VALUE_MAX};
 use crate::ffi;
 use crate::place;
 
@@ -104,12 +104,8 @@ pub fn wide(course: &mut Course) -> Compared {
 pub fn limit(course: &mut Course) -> Compared {
     for _ in 0..PAIRS {
         let rng = &mut course.rng;
-        let rows = 1 + rng.index(ROWS_MAX);
-        let shape = Shape {
-            rows,
-            t_low: 4 * rows as u32,
-            t_high: 20 * rows as u32,
-        };
+        let shape = any_shape(rng);
+        let rows = shape.rows;
         let pair = limit_pair(rng, shape);
         let ticks = rng.word(0, 60 * rows as u32);
         for table in [&pair.within, &pair.past] {

@@ -5,8 +5,9 @@ use peer::table::{ROWS_MAX, ROW_WORDS, WORD_MAX};
 use peer::text::{text_of, write, TEXT_MAX};
 
 use super::{same_there_and_back, same_write};
+use crate::compare::table::each_word_moved;
 use crate::course::{shown, Compared, Course};
-use crate::draw::{any_table, byte_room, byte_room_of, sound, EDGES};
+use crate::draw::{any_table, byte_room, byte_room_of, sound};
 use crate::ffi;
 
 /// Tables drawn freely.
@@ -71,22 +72,11 @@ pub fn rooms(course: &mut Course) -> Compared {
     Ok(())
 }
 
-/// Each word of tables of several sizes at every edge, at the neighbours of the
-/// row's own words, and at the ids of the other rows.
+/// Each word of tables of several sizes, moved.
 pub fn fields(course: &mut Course) -> Compared {
     for rows in [1, 2, 5, ROWS_MAX] {
         let well = sound(&mut course.rng, rows, WORD_MAX);
-        for at in 0..well.len() {
-            let row = at / ROW_WORDS * ROW_WORDS;
-            let own = &well[row..row + ROW_WORDS];
-            let near = own.iter().flat_map(|&word| [word - 1, word, word + 1]);
-            let ids = well.iter().step_by(ROW_WORDS).copied();
-            for value in near.chain(ids).chain(EDGES) {
-                let mut words = well.clone();
-                words[at] = value;
-                same_drawn(course, &words)?;
-            }
-        }
+        each_word_moved(&well, |words| same_drawn(course, words))?;
     }
     Ok(())
 }
