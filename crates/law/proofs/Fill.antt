@@ -1,9 +1,9 @@
 -- A lent run that is filled from its start: what is written so far, and the rest as it was.
 use mathlib.Core.List.{List, [], _∷_, _++_, append-assoc}
 use mathlib.Core.Path.{_≡_, refl, sym, ap, _∙_}
-use Prim.Native.Nat.{ℕ, suc, _+_, _-_, _≤_, _<_}
+use Prim.Native.Nat.{ℕ, suc, _+_, _-_, _<_}
 use native.Mathlib.Omega.{arith}
-use lib.ListN.{length, getD, set, take, drop, length-append, length-drop}
+use lib.ListN.{length, getD, set, take, drop, length-append}
 use lib.Seq.{set-at, take-at, drop-cons}
 
 module _ {A : Type 0} where
@@ -21,11 +21,6 @@ module _ {A : Type 0} where
   pub filled-front : (written old : List A) (n : ℕ) → length written ≡ n → take n (filled written old) ≡ written
   unfolding filled
   filled-front written old n e = take-at written (drop (length written) old) n e
-
-  pub filled-length : (written old : List A) → length written ≤ length old → length (filled written old) ≡ length old
-  unfolding filled
-  filled-length written old h =
-      length-append written (drop (length written) old) ∙ omega (arith, length-drop (length written) old)
 
   -- the next element goes behind what is written
   pub filled-next : (written old : List A) (n : ℕ) (v d : A) → length written ≡ n → n < length old

@@ -20,8 +20,8 @@ use Rattle.law.specs.Sums.{pick}
 use Rattle.law.proofs.First.{first-high}
 use Rattle.law.proofs.Lists.{take-drop}
 use Rattle.law.proofs.Table.{table-length}
-use Rattle.law.proofs.TextLine.{reached, line-sound}
-use Rattle.law.proofs.TextDecimal.{number-most, decimal-ten}
+use Rattle.law.proofs.TextLine.{reached}
+use Rattle.law.proofs.TextDecimal.{decimal-ten}
 use Rattle.law.proofs.TextReach.{line-reach, rows-reach, line-short, read-short-text, words-short}
 use Rattle.law.proofs.TextTrips.{words-many, read-write}
 
@@ -41,15 +41,7 @@ module _ (input : List ℕ) where
     unfolding printed
     printed-run e = rw (line, e)
 
--- what a line says is small, and ends inside the text
-pub line-says-small : (text : List ℕ) (at : ℕ) (key : List ℕ) {values : List ℕ} {next : ℕ} → lineAt text at key ≡ found values next
-    → (head values ≤ 99999) × (next ≤ length text)
-line-says-small text at key {values} {next} e =
-    let l = line-sound text at key values next e in
-    (omega (arith, ap head (l .word), number-most (l .digits) (l .good)), l .fits)
-
--- a refusal's row or place is small
--- what a refusal also returns, 0 where there is none
+-- what a refusal also returns, 0 where there is none: its row or place, which is small
 alsoIn : Answer → ℕ
 alsoIn (accepted vs) = 0
 alsoIn (refused n also) = head also

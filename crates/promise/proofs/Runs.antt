@@ -7,18 +7,14 @@ use native.Mathlib.Omega.{arith}
 use Rattle.law.specs.Refusal.{accepted}
 use Rattle.law.specs.Table.{tableOf, checked}
 use Rattle.law.specs.Tick.{State, fresh, run, clockEnd}
-use Rattle.law.specs.State.{stateOf, laid, runAnswer, runWords}
+use Rattle.law.specs.State.{stateOf, runAnswer, runWords}
 use Rattle.law.specs.Promise.{stateAfter, settling, isMet, took}
 use Rattle.law.proofs.First.{first-same}
 use Rattle.law.proofs.Laid.{state-laid}
-use Rattle.dispatch.proofs.Begun.{begun-laid, begun-runs, begun-run, begun-pieces}
+use Rattle.dispatch.proofs.Begun.{begun-runs, begun-run, begun-pieces}
 use Rattle.promise.specs.Promised.{begun, seenAt, rowIn, tookTicks, deadlineOf}
 
 module _ (table vs : List ℕ) (good : checked table ≡ accepted vs) where
-  pub begun-is : begun table ≡ laid (fresh (tableOf table))
-  unfolding begun
-  begun-is = begun-laid table vs good
-
   pub runs : (t : ℕ) → t ≤ clockEnd → runAnswer (begun table) t ≡ accepted []
   unfolding begun
   runs t h = begun-runs table vs good t h

@@ -7,7 +7,6 @@ use lib.Dec.{leb}
 use lib.ListN.{length, getD, length-append, length-map}
 use borrow.Author.Tests.{leb-true}
 use Rattle.law.specs.Sums.{every}
-use Rattle.law.specs.Refusal.{head}
 use Rattle.law.specs.Text.{lines}
 use Rattle.law.specs.Reading.{decimal}
 use Rattle.law.specs.Report.{numberLines}
@@ -77,11 +76,6 @@ unfolding every
 small-at [] j e = omega arith
 small-at (v ∷ values) zero e = leb-true v 4294967295 (both-left _ _ e)
 small-at (v ∷ values) (suc j) e = small-at values j (both-right (leb v 4294967295) _ e)
-
-pub small-head : (values : List ℕ) → Small values → head values ≤ 4294967295
-unfolding every
-small-head [] e = omega arith
-small-head (v ∷ values) e = leb-true v 4294967295 (both-left _ _ e)
 
 pub number-small : (r : Refusal) → numberOf r ≤ 15
 number-small NotWholeRows = omega arith

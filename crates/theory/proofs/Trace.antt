@@ -5,10 +5,9 @@ use mathlib.Core.Path.{_≡_, sym, ap, _∙_}
 use Prim.Native.Nat.{ℕ, suc, _≤_, _<_}
 use native.Mathlib.Omega.{arith}
 use lib.Dec.{eqb}
-use lib.ListN.{length, length-map, List·getD-map}
+use lib.ListN.{length}
 use Rattle.law.specs.Table.{Task, Ranged, row}
-use Rattle.law.specs.Tick.{Core, Row, Outcome, freshCore, noRow, coreAt, release, urgent, choose, outcome, advance, releaseAll}
-use Rattle.law.specs.State.{tasksOf}
+use Rattle.law.specs.Tick.{Core, Row, Outcome, freshCore, coreAt, release, urgent, choose, outcome, advance, releaseAll}
 use Rattle.theory.proofs.Rows.{runWith, run-length, stepped-at, released-at, released-length, choice-high, choice-urgent}
 
 -- the table, the length of the job that a row would release in a tick, the row chosen in a tick, and each row at the start of a tick
@@ -46,33 +45,6 @@ pub record Trace (x : Course) : Type 0 where
 pub record Clean (tasks : List Task) (rows : List Row) : Type 0 where
   pub as-many : length rows ≡ length tasks
   pub fresh-core : (i : ℕ) → i < length tasks → coreAt rows i ≡ freshCore (row tasks i)
-
--- the same of a row by its words
-pub record Idle (c : Core) : Type 0 where
-  pub no-wait : c .wait ≡ 0
-  pub no-place : c .place ≡ 0
-  pub no-work : c .work ≡ 0
-  pub no-left : c .left ≡ 0
-  pub no-kind : c .kind ≡ 0
-
-idle-fresh : (c : Core) → Idle c → c ≡ freshCore (c .task)
-idle-fresh c z =
-    λ j. record {
-      task = c .task;
-      wait = z .no-wait j;
-      place = z .no-place j;
-      work = z .no-work j;
-      left = z .no-left j;
-      kind = z .no-kind j;
-    }
-
-pub idle-clean : (rows : List Row) → ((i : ℕ) → i < length rows → Idle (coreAt rows i)) → Clean (tasksOf rows) rows
-idle-clean rows idle =
-    record {
-      as-many = sym (length-map rows (λ r. r .core .task));
-      fresh-core = λ i h. idle-fresh (coreAt rows i) (idle i (omega (arith, length-map rows (λ r. r .core .task))))
-          ∙ ap freshCore (sym (List·getD-map (λ r. r .core .task) rows i noRow));
-    }
 
 -- lengths from 1 to C
 pub record Lengths (tasks : List Task) (work : ℕ → ℕ → ℕ) : Type 0 where
