@@ -1,12 +1,12 @@
--- Values of the definitions that document 01 writes out.
+-- Values of the definitions that documents 01 and 02 write out.
 use mathlib.Core.List.{List, [], _∷_, map}
 use mathlib.Core.Path.{_≡_, refl}
 use Prim.Native.Nat.{ℕ}
-use Rattle.law.specs.Sums.{ceil, firstFrom, among, mapFrom, sum, bitsTo}
+use Rattle.law.specs.Sums.{ceil, firstFrom, largest, among, mapFrom, sum, bitsTo}
 use Rattle.law.specs.Pattern.{mandatory, count, word}
 use Rattle.law.specs.Table.{Task, kindOf, countOf}
 use Rattle.law.specs.Verdict.{demand, load, fitsAt, response}
-use Rattle.law.specs.Tick.{Row, fresh, release, nextPlace, choose, outcome, advance, shifted, marks, settled, releaseAll, advanceAll, finish, begin, tick, run}
+use Rattle.law.specs.Tick.{Row, fresh, release, nextPlace, choose, outcome, advance, shifted, marks, spare, settled, releaseAll, advanceAll, finish, begin, tick, run}
 use Rattle.law.specs.Promise.{stateAfter, during, settling, took}
 
 p5 : List Task
@@ -28,3 +28,8 @@ p5-responses = refl
 words : word 1 1 ∷ word 2 3 ∷ word 3 5 ∷ [] ≡ 1 ∷ 3 ∷ 11 ∷ []
 unfolding word bitsTo mandatory ceil
 words = refl
+
+-- Document 02, 1/14: "the window met, missed, missed (newest last) gives 0 and missed, missed, met gives 2", with (1,3)
+spares : spare 1 3 4 ∷ spare 1 3 1 ∷ [] ≡ 0 ∷ 2 ∷ []
+unfolding spare largest marks among
+spares = refl

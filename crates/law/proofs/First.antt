@@ -9,7 +9,7 @@ use native.Mathlib.Numerals.{add-one}
 use native.Mathlib.Omega.{arith}
 use lib.ListN.{length, getD, length-append, List·getD-append}
 use lib.Seq.{getD-at}
-use Rattle.law.specs.Sums.{pick, firstFrom, first, build}
+use Rattle.law.specs.Sums.{pick, firstFrom, first, largest, build}
 use Rattle.law.proofs.Tests.{passes, fails, known, never-both}
 
 -- what a loop that has come to i has found of the first number below n that passes: it is still to come, from i on
@@ -117,7 +117,70 @@ unfolding firstFrom
 first-cong p q i zero e = refl
 first-cong p q i (suc n) e = rw (e i, first-cong p q (suc i) n e)
 
--- how many pass
+-- what a loop that comes down from n to i has found of the largest number up to n that passes: it is still to come, from i down
+pub record SearchedDown (p : ℕ → Bool) (n i : ℕ) : Type 0 where
+  pub reached : i ≤ n
+  pub rest : largest p i ≡ largest p n
+
+module _ (p : ℕ → Bool) where
+  largest-now : (n : ℕ) → p n ≡ true → largest p n ≡ n
+  unfolding largest
+  largest-now zero e = refl
+  largest-now (suc n) e = rw e
+
+  largest-later : (n : ℕ) → p (suc n) ≡ false → largest p (suc n) ≡ largest p n
+  unfolding largest
+  largest-later n e = rw e
+
+  largest-end : largest p 0 ≡ 0
+  unfolding largest
+  largest-end = refl
+
+  pub largest-high : (n : ℕ) → largest p n ≤ n
+  largest-high zero = omega (arith, largest-end)
+  largest-high (suc n) =
+      elim (known (p (suc n))) [
+        | passes e ↦ omega (arith, largest-now (suc n) e)
+        | fails e ↦ omega (arith, largest-later n e, largest-high n)
+      ]
+
+  pub largest-found : (n : ℕ) → 0 < largest p n → p (largest p n) ≡ true
+  largest-found zero h = absurd (omega (arith, largest-end))
+  largest-found (suc n) h =
+      elim (known (p (suc n))) [
+        | passes e ↦ ap p (largest-now (suc n) e) ∙ e
+        | fails e ↦ ap p (largest-later n e) ∙ largest-found n (omega (arith, largest-later n e))
+      ]
+
+  -- where a number passes, the largest passes and is no smaller
+  pub largest-passes : (n j : ℕ) → j ≤ n → p j ≡ true → (p (largest p n) ≡ true) × (j ≤ largest p n)
+  largest-passes zero j h e = let none : j ≡ 0 = omega arith in (ap p (largest-end ∙ sym none) ∙ e, omega arith)
+  largest-passes (suc n) j h e =
+      elim (known (p (suc n))) [
+        | passes f ↦ (ap p (largest-now (suc n) f) ∙ f, omega (arith, largest-now (suc n) f))
+        | fails f ↦ elim (decLt n j) [
+          | yes l ↦ let last : j ≡ suc n = omega arith in absurd (never-both (p (suc n)) (ap p (sym last) ∙ e) f)
+          | no l ↦ let found = largest-passes n j (omega arith) e in
+              (ap p (largest-later n f) ∙ found .0, omega (arith, found .1, largest-later n f))
+        ]
+      ]
+
+module _ {p : ℕ → Bool} {n i : ℕ} (s : SearchedDown p n i) where
+  pub down-hit : p i ≡ true → largest p n ≡ i
+  down-hit e = sym (s .rest) ∙ largest-now p i e
+
+  pub down-end : i ≡ 0 → largest p n ≡ 0
+  down-end e = sym (s .rest) ∙ ap (largest p) e ∙ largest-end p
+
+  pub down-next : (j : ℕ) → i ≡ suc j → p i ≡ false → SearchedDown p n j
+  down-next j e f =
+      record {
+        reached = omega (arith, s .reached);
+        rest = sym (largest-later p j (ap p (sym e) ∙ f)) ∙ ap (largest p) (sym e) ∙ s .rest;
+      }
+
+pub down-start : (p : ℕ → Bool) (n : ℕ) → SearchedDown p n n
+down-start p n = record { reached = omega arith; rest = refl }
 
 pub build-length : {A : Type 0} (f : ℕ → A) (n : ℕ) → length (build f n) ≡ n
 unfolding build

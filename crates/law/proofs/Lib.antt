@@ -10,6 +10,7 @@ pub mod Table
 pub mod Fill
 pub mod Verdict
 pub mod Window
+pub mod Spare
 pub mod Laid
 pub mod Sound
 pub mod Ticks

@@ -2,16 +2,17 @@
 use mathlib.Core.Bool.{Bool}
 use mathlib.Core.Path.{_≡_, refl, sym, ap, _∙_}
 use Prim.Native.Nat.{ℕ, zero, suc, _+_, _-_, _*_, _/_, _%_, _^_, _≤_, _<_}
-use native.Mathlib.Nat.{mul-comm, mod-lt, mod-eq-of-lt, mod-add-mod, mul-div-cancel, mul-mod-left, zero-add}
-use native.Mathlib.Numerals.{one-add}
+use native.Mathlib.Nat.{mul-comm, mod-lt, mod-eq-of-lt, mod-add-mod, mul-div-cancel, mul-mod-left, zero-add, div-one}
+use native.Mathlib.Numerals.{one-add, add-one}
 use native.Mathlib.Omega.{arith}
 use lib.Arith.{mod-mul, lt-one}
 use lib.Bits.{bitAnd, bitOr, or-shifted, and-mask}
 use lib.Count.{ones, ones-cat}
 use lib.Dec.{eqb}
-use lib.Pow.{pow-pos, high, ones-lt, ones-split, mod-pow-add, mod-mod-pow}
+use lib.Pow.{pow-pos, shr-shr, high, field, ones-lt, ones-split, mod-pow-add, mod-mod-pow}
 use Rattle.law.specs.Sums.{bit, among}
 use Rattle.law.specs.Tick.{shifted, marks}
+use Rattle.law.proofs.Sums.{among-size}
 
 two : zero < 2
 two = omega arith
@@ -42,6 +43,75 @@ shifted-low k window mark = mod-lt (2 * window + mark) (pow-pos k)
 pub marks-are-ones : (k window : ℕ) → window < 2 ^ k → ones window ≡ marks k window
 unfolding marks marked
 marks-are-ones k window h = ap ones (sym (mod-eq-of-lt h)) ∙ ones-low window k
+
+-- the cut does not change the bits below it
+cut-bit : (n j b : ℕ) → n % 2 ^ (suc j + b) / 2 ^ b % 2 ≡ n / 2 ^ b % 2
+cut-bit n j b =
+    ap (λ (z : ℕ). z % 2) (field n (suc j) b) ∙ ap (λ (z : ℕ). n / 2 ^ b % 2 ^ z % 2) (sym (add-one j)) ∙ mod-mod-pow (n / 2 ^ b) j 1
+
+shifted-bit : (k window mark b : ℕ) → b < k → shifted k window mark / 2 ^ b % 2 ≡ (2 * window + mark) / 2 ^ b % 2
+unfolding shifted
+shifted-bit k window mark b h =
+    let e : k ≡ suc (k - suc b) + b = omega arith in
+    ap (λ (z : ℕ). (2 * window + mark) % 2 ^ z / 2 ^ b % 2) e ∙ cut-bit (2 * window + mark) (k - suc b) b
+
+-- after a shift the newest bit is the mark that came in, and each older bit is the one before it
+pub shift-newest : (k window mark : ℕ) → 0 < k → mark < 2 → shifted k window mark / 2 ^ 0 % 2 ≡ mark
+shift-newest k window mark h l =
+    shifted-bit k window mark 0 h ∙ ap (λ (z : ℕ). z % 2) (div-one (2 * window + mark)) ∙ omega arith
+
+one-suc : (b : ℕ) → suc b ≡ 1 + b
+one-suc b = omega arith
+
+pub shift-older : (k window mark b : ℕ) → suc b < k → mark < 2 → shifted k window mark / 2 ^ suc b % 2 ≡ window / 2 ^ b % 2
+shift-older k window mark b h l =
+    let half : (2 * window + mark) / 2 ≡ window = omega arith in
+    shifted-bit k window mark (suc b) h ∙ ap (λ (z : ℕ). (2 * window + mark) / 2 ^ z % 2) (one-suc b)
+    ∙ ap (λ (z : ℕ). z % 2) (sym (shr-shr (2 * window + mark) 1 b)) ∙ ap (λ (z : ℕ). z / 2 ^ b % 2) half
+
+mark-bit : (mark : ℕ) → mark < 2 → bit (eqb mark 1) ≡ mark
+mark-bit zero h = refl
+mark-bit (suc zero) h = refl
+mark-bit (suc (suc mark)) h = absurd (omega arith)
+
+-- the marks of no bits, and one mark more
+pub marks-none : (window : ℕ) → marks 0 window ≡ 0
+unfolding marks among
+marks-none window = refl
+
+pub marks-suc : (q window : ℕ) → marks (suc q) window ≡ marks q window + bit (eqb (window / 2 ^ q % 2) 1)
+unfolding marks among marked
+marks-suc q window = ap (λ (z : ℕ). marks q window + bit (marked window z)) (zero-add q)
+
+pub marks-most : (q window : ℕ) → marks q window ≤ q
+unfolding marks
+marks-most q window = among-size _ 0 q
+
+-- one mark more, read by a shift of the word
+pub marks-next : (q window : ℕ) → marks q window + bitAnd (window / 2 ^ q) 1 ≡ marks (suc q) window
+marks-next q window =
+    omega
+    (arith, marks-suc q window, and-mask (window / 2 ^ q) 1, mark-bit (window / 2 ^ q % 2) (mod-lt (window / 2 ^ q) two))
+
+-- the newest marks after a shift: the mark that came in, and one fewer of the marks before
+pub shift-marks : (k window mark q : ℕ) → q < k → mark < 2 → marks (suc q) (shifted k window mark) ≡ marks q window + mark
+shift-marks k window mark zero h l =
+    omega (
+      arith,
+      marks-suc 0 (shifted k window mark),
+      marks-none (shifted k window mark),
+      marks-none window,
+      ap (λ (z : ℕ). bit (eqb z 1)) (shift-newest k window mark h l),
+      mark-bit mark l,
+    )
+shift-marks k window mark (suc q) h l =
+    omega (
+      arith,
+      marks-suc (suc q) (shifted k window mark),
+      marks-suc q window,
+      shift-marks k window mark q (omega arith) l,
+      ap (λ (z : ℕ). bit (eqb z 1)) (shift-older k window mark q h l),
+    )
 
 -- the word of k set bits, cut out of the whole word
 pub cut-is : (k : ℕ) → k ≤ 64 → (2 ^ 64 - 1) / 2 ^ (64 - k) ≡ 2 ^ k - 1

@@ -1,14 +1,14 @@
--- Demand 3, in words that can be held against it: what a run from fresh does to each job of each row.
+-- Demand 3, in words that can be held against it: what a run from fresh does to each job of each row. And what a row's spare promises.
 use mathlib.Core.Bool.{Bool, true, false}
 use mathlib.Core.List.{List}
 use mathlib.Core.Path.{_≡_}
-use Prim.Native.Nat.{ℕ, _+_, _-_, _*_, _/_, _%_, _^_, _≤_, _<_}
+use Prim.Native.Nat.{ℕ, zero, suc, _+_, _-_, _*_, _/_, _%_, _^_, _≤_, _<_}
 use lib.Dec.{leb, ltb, eqb}
 use lib.ListN.{length, getD}
 use Rattle.law.specs.Sums.{bit, pick, firstFrom, among}
 use Rattle.law.specs.Table.{Task, row, kindOf}
 use Rattle.law.specs.Verdict.{response, admitted}
-use Rattle.law.specs.Tick.{Row, Tally, State, Outcome, nothing, met, missed, coreAt, noRow, live, outcome, choose, fullLength, releaseAll, fresh, run, marks}
+use Rattle.law.specs.Tick.{Row, Tally, State, Outcome, nothing, met, missed, coreAt, noRow, live, outcome, choose, fullLength, releaseAll, fresh, run, marks, amended}
 
 -- the state after t ticks from fresh
 unfoldable pub stateAfter : List Task → ℕ → State
@@ -92,3 +92,16 @@ pub record Seen (tasks : List Task) (i t : ℕ) : Type 0 where
   pub no-miss : tallyAfter tasks i t .mx ≡ 0
   pub no-break : tallyAfter tasks i t .broken ≡ 0
   pub enough : row tasks i .m ≤ marks (row tasks i .k) (tallyAfter tasks i t .window)
+
+-- a tally after j further misses in a row, settled one by one, of jobs of any kinds
+unfoldable pub afterMisses : Task → (ℕ → ℕ) → ℕ → Tally → Tally
+afterMisses r kinds zero y = y
+afterMisses r kinds (suc j) y = amended missed r (kinds j) (afterMisses r kinds j y)
+
+-- Document 02, 1/14: what n says as "misses left" of a tally whose window holds m met marks. After each of up to n further misses in a row the
+-- window still holds m and none is counted as broken; after one more it does not, and one is.
+pub record MissesLeft (r : Task) (y : Tally) (n : ℕ) : Type 0 where
+  pub harmless : (kinds : ℕ → ℕ) (j : ℕ) → j ≤ n → r .m ≤ marks (r .k) (afterMisses r kinds j y .window)
+  pub unbroken : (kinds : ℕ → ℕ) (j : ℕ) → j ≤ n → afterMisses r kinds j y .broken ≡ y .broken
+  pub no-more : (kinds : ℕ → ℕ) → marks (r .k) (afterMisses r kinds (suc n) y .window) < r .m
+  pub breaks : (kinds : ℕ → ℕ) → afterMisses r kinds (suc n) y .broken ≡ y .broken + 1

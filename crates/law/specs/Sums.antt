@@ -36,6 +36,11 @@ firstFrom p i (suc n) = pick (p i) i (firstFrom p (suc i) n)
 abbrev pub first : (ℕ → Bool) → ℕ → ℕ
 first p n = firstFrom p 0 n
 
+-- the largest number from 0 to n that passes the test p; 0 where none does
+unfoldable pub largest : (ℕ → Bool) → ℕ → ℕ
+largest p zero = 0
+largest p (suc n) = pick (p (suc n)) (suc n) (largest p n)
+
 -- f 0, .., f (n - 1)
 unfoldable pub build : {A : Type 0} → (ℕ → A) → ℕ → List A
 build f zero = []

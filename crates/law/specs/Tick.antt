@@ -2,9 +2,9 @@
 use mathlib.Core.Bool.{Bool, true, false, not}
 use mathlib.Core.List.{List, map}
 use Prim.Native.Nat.{ℕ, zero, suc, _+_, _-_, _*_, _%_, _/_, _^_}
-use lib.Dec.{ltb, eqb}
+use lib.Dec.{leb, ltb, eqb}
 use lib.ListN.{length, getD}
-use Rattle.law.specs.Sums.{bit, both, pick, sum, first, mapFrom, among}
+use Rattle.law.specs.Sums.{bit, both, pick, sum, first, largest, mapFrom, among}
 use Rattle.law.specs.Refusal.{within}
 use Rattle.law.specs.Table.{Task, noTask, kindOf}
 
@@ -140,9 +140,13 @@ shifted k window mark = (2 * window + mark) % 2 ^ k
 unfoldable pub marks : ℕ → ℕ → ℕ
 marks k window = among (λ b. eqb (window / 2 ^ b % 2) 1) 0 k
 
--- "Spare is the number of met marks in the window less m, or 0 if that is negative"
+-- Document 02, 1/14: "the newest k - n marks still hold at least m". The newest mark is bit 0, so they are the marks of the first k - n bits
+abbrev pub stillHold : ℕ → ℕ → ℕ → ℕ → Bool
+stillHold m k window n = leb m (marks (k - n) window)
+
+-- "Spare becomes the largest n for which" they do; "if the whole window holds fewer than m it is 0"
 unfoldable pub spare : ℕ → ℕ → ℕ → ℕ
-spare m k window = marks k window - m
+spare m k window = largest (stillHold m k window) k
 
 -- "mandatory met and missed, optional met and missed, and broken windows (settlings after which the window held fewer than m met marks)"
 unfoldable pub settled : ℕ → ℕ → ℕ → ℕ → Tally → Tally

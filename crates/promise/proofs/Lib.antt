@@ -4,4 +4,5 @@ pub mod Demands
 pub mod Excluded
 pub mod Examples
 pub mod TextKept
+pub mod MissesLeft
 pub mod Once

@@ -1,3 +1,4 @@
 pub mod Promised
 pub mod Examples
 pub mod TextKept
+pub mod MissesLeft

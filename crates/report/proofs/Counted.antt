@@ -8,12 +8,12 @@ use lib.ListN.{length, length-append}
 use borrow.Author.Tests.{le-leb}
 use Rattle.law.specs.Sums.{every}
 use Rattle.law.specs.Table.{Task, row}
-use Rattle.law.specs.Tick.{Row, State, clockEnd, marks, spare}
+use Rattle.law.specs.Tick.{Row, State, clockEnd}
 use Rattle.law.specs.State.{countsOf, settledCounts}
 use Rattle.law.specs.Sound.{SoundRow}
 use Rattle.law.specs.Report.{rowPrinted, rowsPrinted}
 use Rattle.law.proofs.Report.{row-most}
-use Rattle.law.proofs.Sums.{among-size}
+use Rattle.law.proofs.Spare.{spare-high}
 use Rattle.law.proofs.Tests.{both-true}
 use Rattle.text.specs.Written.{putAt}
 use Rattle.text.proofs.Pieces.{put-none, put-length, put-then}
@@ -27,12 +27,8 @@ small-none : Small []
 unfolding every
 small-none = refl
 
-marks-most : (k window : ℕ) → marks k window ≤ k
-unfolding marks
-marks-most k window = among-size _ 0 k
-
 pub counts-small : {time : ℕ} {r : Row} → SoundRow 0 time r → time ≤ clockEnd → Small (countsOf r)
-unfolding countsOf spare
+unfolding countsOf
 counts-small {time} {r} s early =
     let y = r .tally in
     let t = s .tally in
@@ -44,7 +40,7 @@ counts-small {time} {r} s early =
     (small-cons (y .om) _ (omega arith)
     (small-cons (y .ox) _ (omega arith)
     (small-cons (y .broken) _ (omega (arith, t .broken))
-    (small-cons (marks (r .core .task .k) (y .window) - r .core .task .m) [] (omega (arith, marks-most (r .core .task .k) (y .window))) small-none))))))
+    (small-cons _ [] (omega (arith, spare-high (r .core .task .m) (r .core .task .k) (y .window))) small-none))))))
 
 -- the first i rows stand at `at`, and the next goes behind them
 pub record Printing (tasks : List Task) (s : State) (old : List ℕ) (at : ℕ) (out : List ℕ) (next i : ℕ) : Type 0 where

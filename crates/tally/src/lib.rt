@@ -54,13 +54,22 @@ fn one_if_short(window: u64, m: u64, k: u64) -> u64
     if marks_in(window, k) < m { 1 } else { 0 }
 }
 
-// How many further misses the task can bear: the met marks of the window less m.
+// How many further misses in a row the task can bear. From the newest mark on, marks are taken in until m of them are met: the n marks not taken
+// in may go.
 pub fn spare(window: u64, m: u64, k: u64) -> u64
-    requires { ⌜ window < 2 ^ k ⌝ }
+    requires { ⌜ k ≤ 64 ⌝ }
     ensures { λ r. ⌜ r ≡ spareLaw m k window ⌝ }
 {
-    let met = marks_in(window, k);
-    if m <= met { met - m } else { 0 }
+    let mut met = 0;
+    let mut n = k;
+    while met < m {
+        if n == 0 {
+            return 0;
+        }
+        met += window >> (k - n) & 1;
+        n -= 1;
+    }
+    n
 }
 
 // The tally after a job of that kind is settled, with mark 1 for met and 0 for missed: the window shifts, one count goes up, and

@@ -3,11 +3,11 @@ use mathlib.Core.Bool.{Bool, true, false}
 use mathlib.Core.Path.{_≡_, refl, sym, ap, _∙_}
 use Prim.Native.Nat.{ℕ, zero, suc, _+_, _-_, _*_, _/_, _%_, _^_, _≤_, _<_}
 use native.Mathlib.Decide.{decLt}
-use native.Mathlib.Nat.{zero-add, sub-zero, div-one, pow-suc}
+use native.Mathlib.Nat.{zero-add, sub-zero, pow-suc}
 use native.Mathlib.Omega.{arith}
 use native.Mathlib.Numerals.{add-one}
 use lib.Dec.{eqb, ltb}
-use lib.Pow.{pow-pos, shr-shr, high, field, mod-mod-pow, ones-lt, ones-split}
+use lib.Pow.{pow-pos, high, ones-lt, ones-split}
 use borrow.Author.Tests.{lt-ltb, le-ltb}
 use Rattle.law.specs.Sums.{bit, pick, among}
 use Rattle.law.specs.Pattern.{IsPattern}
@@ -15,6 +15,7 @@ use Rattle.law.specs.Tick.{shifted, marks}
 use Rattle.law.proofs.Pattern.{counted-among}
 use Rattle.law.proofs.Sums.{among-size}
 use Rattle.law.proofs.Tests.{bit-most, bit-mono}
+use Rattle.law.proofs.Window.{shift-newest, shift-older}
 
 -- the mark of the b-th newest of z settled jobs; a met mark stands for each job before the first
 abbrev pub markOfJob : (ℕ → Bool) → ℕ → ℕ → ℕ
@@ -42,29 +43,6 @@ fresh-shows k good =
           ap (λ (z : ℕ). (2 ^ z - 1) / 2 ^ b % 2) e ∙ all-ones (k - suc b) b ∙ sym (mark-before good 0 b (omega arith));
     }
 
--- the cut does not change the bits below it
-cut-bit : (n j b : ℕ) → n % 2 ^ (suc j + b) / 2 ^ b % 2 ≡ n / 2 ^ b % 2
-cut-bit n j b =
-    ap (λ (z : ℕ). z % 2) (field n (suc j) b) ∙ ap (λ (z : ℕ). n / 2 ^ b % 2 ^ z % 2) (sym (add-one j)) ∙ mod-mod-pow (n / 2 ^ b) j 1
-
-shifted-bit : (k w mark b : ℕ) → b < k → shifted k w mark / 2 ^ b % 2 ≡ (2 * w + mark) / 2 ^ b % 2
-unfolding shifted
-shifted-bit k w mark b h =
-    let e : k ≡ suc (k - suc b) + b = omega arith in
-    ap (λ (z : ℕ). (2 * w + mark) % 2 ^ z / 2 ^ b % 2) e ∙ cut-bit (2 * w + mark) (k - suc b) b
-
-newest-bit : (w mark : ℕ) → mark < 2 → (2 * w + mark) / 2 ^ 0 % 2 ≡ mark
-newest-bit w mark h = ap (λ (z : ℕ). z % 2) (div-one (2 * w + mark)) ∙ omega arith
-
-one-suc : (b : ℕ) → suc b ≡ 1 + b
-one-suc b = omega arith
-
-older-bit : (w mark b : ℕ) → mark < 2 → (2 * w + mark) / 2 ^ suc b % 2 ≡ w / 2 ^ b % 2
-older-bit w mark b h =
-    let half : (2 * w + mark) / 2 ≡ w = omega arith in
-    ap (λ (z : ℕ). (2 * w + mark) / 2 ^ z % 2) (one-suc b) ∙ ap (λ (z : ℕ). z % 2) (sym (shr-shr (2 * w + mark) 1 b))
-    ∙ ap (λ (z : ℕ). z / 2 ^ b % 2) half
-
 older-mark : (good : ℕ → Bool) (z b : ℕ) → markOfJob good z b ≡ markOfJob good (suc z) (suc b)
 older-mark good z b =
     elim (decLt b z) [
@@ -76,14 +54,14 @@ older-mark good z b =
 -- a shift shows one more job
 pub shift-shows : {k w z : ℕ} {good : ℕ → Bool} → Shows k w good z → (mark : ℕ) → mark ≡ bit (good z)
     → Shows k (shifted k w mark) good (suc z)
-shift-shows {k} {w} {z} {good} s mark e = record { shown = λ b h. shifted-bit k w mark b h ∙ go b h }
+shift-shows {k} {w} {z} {good} s mark e = record { shown = go }
   where
     small : mark < 2
     small = omega (arith, bit-most (good z))
 
-    go : (b : ℕ) → b < k → (2 * w + mark) / 2 ^ b % 2 ≡ markOfJob good (suc z) b
-    go zero h = newest-bit w mark small ∙ e ∙ ap (λ (y : ℕ). bit (good y)) (omega arith) ∙ sym (mark-job good (suc z) 0 (omega arith))
-    go (suc b) h = older-bit w mark b small ∙ s .shown b (omega arith) ∙ older-mark good z b
+    go : (b : ℕ) → b < k → shifted k w mark / 2 ^ b % 2 ≡ markOfJob good (suc z) b
+    go zero h = shift-newest k w mark h small ∙ e ∙ ap (λ (y : ℕ). bit (good y)) (omega arith) ∙ sym (mark-job good (suc z) 0 (omega arith))
+    go (suc b) h = shift-older k w mark b h small ∙ s .shown b (omega arith) ∙ older-mark good z b
 
 bit-read : (b : Bool) → eqb (bit b) 1 ≡ b
 bit-read true = refl

@@ -1,11 +1,11 @@
 -- `dispatch::counts::counts_of` meets its contract: the row read is the state's, and a row past the last has no counts.
 use mathlib.Core.List.{[], _∷_}
 use mathlib.Core.Path.{_≡_, refl, sym, ap, _∙_, subst}
-use Prim.Native.Nat.{ℕ, _≤_, _<_, _^_}
+use Prim.Native.Nat.{ℕ, _≤_}
 use native.Mathlib.Omega.{arith}
 use lib.ListN.{length, getD, List·getD-eq-default}
-use Rattle.law.specs.Sums.{among}
-use Rattle.law.specs.Tick.{Row, noRow, spare, marks}
+use Rattle.law.specs.Sums.{largest}
+use Rattle.law.specs.Tick.{Row, noRow, spare}
 use Rattle.law.specs.State.{stateOf, countsOf}
 use Rattle.rows.specs.Said.{rowSaid}
 use Rattle.rows.proofs.Words.{words-long, row-read}
@@ -15,7 +15,7 @@ use Rattle.dispatch.proofs.counts.counts_of.Tie as tie
 
 -- the counts of no row
 none : countsOf noRow ≡ 0 ∷ 0 ∷ 0 ∷ 0 ∷ 0 ∷ 0 ∷ 0 ∷ []
-unfolding countsOf spare marks among
+unfolding countsOf spare largest
 none = refl
 
 rows-of-requires : tie.Need-rows-of-requires
@@ -39,7 +39,7 @@ spare-requires : tie.Need-spare-requires
 spare-requires c κs =
     let s = c .before .before .before .before .before in
     let h = s .pre .sound .rows (s .args .i) (omega (arith, c .before .before .before .rows-of .ensures, c .before .before .if1 .left)) in
-    subst (λ (z : Row). z .tally .window < 2 ^ (z .core .task .k)) (sym (read (c .before))) (h .tally .window)
+    subst (λ (z : Row). z .core .task .k ≤ 64) (sym (read (c .before))) (h .core .ranged .pair .k-high)
 
 returns-2 : tie.Need-returns-2
 unfolding countsOf
