@@ -18,7 +18,7 @@ fn agreed(window: u64, m: u32, k: u32) -> u32 {
     figure
 }
 
-/// All windows of k marks: bits 0 to k - 1.
+/// The window of k met marks, and the last of all windows of k marks.
 fn whole(k: u32) -> u64 {
     u64::MAX >> (64 - k)
 }
