@@ -6,6 +6,10 @@
 //! All 100,000 ends of a line, a value with its LF, are written out, and every
 //! beginning of every one of them is kept in a set. Whether bytes are the
 //! beginning of some text is then asked afresh for each length, line by line.
+//!
+//! [`spare`] does the same for the figure of that name.
+
+pub mod spare;
 
 use std::collections::{HashMap, HashSet};
 use std::hash::{BuildHasherDefault, Hasher};

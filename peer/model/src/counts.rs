@@ -14,7 +14,7 @@ fn counts_of(row: &Row) -> [u64; COUNT_WORDS] {
         row.om,
         row.ox,
         row.broken,
-        spare(row.window, row.m),
+        spare(row.window, row.m, row.k),
     ];
     counts.map(u64::from)
 }

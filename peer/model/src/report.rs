@@ -64,7 +64,7 @@ fn print_counts(out: &mut Vec<u8>, state: &State, responses: &[u32; ROWS_MAX]) {
             ("om", row.om),
             ("ox", row.ox),
             ("broken", row.broken),
-            ("spare", dispatch::spare(row.window, row.m)),
+            ("spare", dispatch::spare(row.window, row.m, row.k)),
         ];
         for (key, value) in lines {
             line(out, key, u64::from(value));

@@ -544,10 +544,10 @@ fn saved_and_read_back() {
 
 #[test]
 fn spare_marks() {
-    assert_eq!(spare(0, 0), 0);
-    assert_eq!(spare(0, 1), 0);
-    assert_eq!(spare(0b1011, 2), 1);
-    assert_eq!(spare(0b1011, 3), 0);
-    assert_eq!(spare(u64::MAX, 1), 63);
-    assert_eq!(spare(u64::MAX, u32::MAX), 0);
+    assert_eq!(spare(0, 0, 0), 0);
+    assert_eq!(spare(0, 1, 4), 0);
+    assert_eq!(spare(0b1011, 2, 4), 2);
+    assert_eq!(spare(0b1011, 3, 4), 0);
+    assert_eq!(spare(u64::MAX, 1, 64), 63);
+    assert_eq!(spare(u64::MAX, u32::MAX, 64), 0);
 }

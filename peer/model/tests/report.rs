@@ -5,7 +5,8 @@ use std::process::{Command, Stdio};
 
 use peer::answer::Answer;
 use peer::brute::report_refusal;
-use peer::dispatch::{fresh, run, spare};
+use peer::brute::spare::by_sentence;
+use peer::dispatch::{fresh, run};
 use peer::gen::{report_input, special_inputs};
 use peer::report::{report, report_into, report_leaping};
 use peer::rng::Rng;
@@ -46,7 +47,7 @@ fn expected(input: &[u8]) -> String {
         out += &format!(
             "broken={}\nspare={}\n",
             row.broken,
-            spare(row.window, row.m)
+            by_sentence(row.window, row.m, row.k)
         );
     }
     out

@@ -59,7 +59,7 @@ fn rubbish_pairs() {
         );
         assert_eq!(word(m, k), entry(m, k));
         assert!(count(m, k, a) <= u64::from(a));
-        assert!(spare(rng.bits(), m) <= 64);
+        assert!(spare(rng.bits(), m, k) <= k);
     }
 }
 

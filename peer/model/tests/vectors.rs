@@ -101,6 +101,15 @@ fn document_01_by_hand() {
     assert!(line.starts_with(shown), "{line}");
 }
 
+/// The windows of 1/14: met, missed, missed (newest last) and missed, missed, met.
+/// Bit 0 is the newest mark.
+#[test]
+fn document_02_by_hand() {
+    let of = |window| answered(&format!("7 579 0 14 {window} 0 7 1 1 2 2 1 3\n"));
+    assert_eq!(of(0b100), "7 0 1 0 0 0 0 0 0 0 0 0 0 0\n");
+    assert_eq!(of(0b001), "7 0 1 0 0 0 0 0 0 0 0 0 0 2\n");
+}
+
 #[test]
 fn what_is_no_case() {
     for (at, text) in [

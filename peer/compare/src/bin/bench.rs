@@ -85,6 +85,8 @@ fn main() -> ExitCode {
         alike &= states::single_ticks(&mut rng, rows);
     }
     alike &= states::counts(&mut rng);
+    // A copy draws for this line, so that the table of the long run stays as it is.
+    alike &= states::counts_k_64(&mut rng.clone());
     alike &= printing::all();
     alike &= !slow || long_run(&mut rng) && states::clocks_end();
     match alike {

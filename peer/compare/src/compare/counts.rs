@@ -1,5 +1,7 @@
 //! The counts of one row of a saved state: every answer and every lent word.
 
+mod windows;
+
 use peer::counts::{counts_words, COUNT_WORDS};
 use peer::dispatch::{fresh_words, run_words, HEAD_WORDS, SAVED_ROW_WORDS, STATE_WORDS};
 use peer::gen::{damaged_states, scrambled_state, state};
@@ -82,6 +84,18 @@ pub const ALL: &[Comparison] = &[
         drawn: true,
         due: &[0, 14],
         run: row_numbers,
+    },
+    Comparison {
+        name: "counts_windows",
+        drawn: false,
+        due: &[0],
+        run: windows::all,
+    },
+    Comparison {
+        name: "counts_windows_drawn",
+        drawn: true,
+        due: &[0],
+        run: windows::drawn,
     },
 ];
 

@@ -4,7 +4,8 @@
 
 use super::{line, COUNT_ROOM_MAX, ROOM_MAX, STATE_ROOM_MAX};
 use crate::counts::COUNT_WORDS;
-use crate::dispatch::{fresh_words, run_words, CLOCK_END, STATE_WORDS};
+use crate::dispatch::{fresh_words, run_words, CLOCK_END};
+use crate::dispatch::{HEAD_WORDS, SAVED_ROW_WORDS, STATE_WORDS};
 use crate::gen::{damaged_states, faulty_table, job_question, loaded_table, table, tiny_table};
 use crate::gen::{
     damaged_text, good_text, longest_table, report_input, special_inputs, special_texts,
@@ -408,6 +409,54 @@ fn counts(cases: &mut Cases) {
             cases.add(&head, &words);
             cases.add(&[room, n.into(), at, value, row, length as u64], &words);
         }
+    }
+    spares(cases);
+}
+
+/// The window of a row, as a place of a saved state.
+fn window_at(row: usize) -> u64 {
+    (HEAD_WORDS + row * SAVED_ROW_WORDS + 11) as u64
+}
+
+/// Windows that tell the newest marks from the others, (m, k) and the marks:
+/// document 02's two first, then met marks at the ends and in the middle, as many
+/// as m and one fewer, all of them and none.
+const SPARES: [(u32, u32, u64); 22] = [
+    (1, 3, 0b100),
+    (1, 3, 0b001),
+    (1, 3, 0b010),
+    (1, 3, 0b000),
+    (2, 3, 0b011),
+    (2, 3, 0b101),
+    (2, 3, 0b010),
+    (3, 5, 0b01101),
+    (1, 1, 0),
+    (1, 64, 1),
+    (1, 64, 1 << 31),
+    (1, 64, 1 << 32),
+    (1, 64, 1 << 63),
+    (1, 64, u64::MAX),
+    (2, 64, 1 << 63 | 1),
+    (2, 64, 1 << 63),
+    (32, 64, u64::MAX >> 32),
+    (32, 64, u64::MAX << 32),
+    (32, 64, 0x5555_5555_5555_5555),
+    (63, 64, u64::MAX >> 1),
+    (63, 64, u64::MAX << 1),
+    (64, 64, u64::MAX),
+];
+
+/// Each of the windows in the first row of a table and in the second by turns,
+/// beside a row of another k.
+fn spares(cases: &mut Cases) {
+    let (room, counts) = (STATE_WORDS as u64, COUNT_WORDS as u64);
+    for (turn, (m, k, window)) in SPARES.into_iter().enumerate() {
+        let row = turn % 2;
+        let mut words = [7, 1, 4, 4, 2, 6, 8, 1, 4, 4, 2, 6];
+        words[row * ROW_WORDS + 4] = m;
+        words[row * ROW_WORDS + 5] = k;
+        let head = [room, 0, window_at(row), window, row as u64, counts];
+        cases.add(&head, &words);
     }
 }
 

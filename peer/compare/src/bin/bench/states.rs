@@ -7,7 +7,8 @@ use compare::ffi;
 use peer::answer::{refusal, Answer};
 use peer::counts::{counts_words, COUNT_WORDS};
 use peer::dispatch::{from_words, tick, tick_words, to_words, Row, State, CLOCK_END};
-use peer::pattern;
+use peer::dispatch::{HEAD_WORDS, SAVED_ROW_WORDS};
+use peer::pattern::{self, K_MAX};
 use peer::rng::Rng;
 use peer::table::ROWS_MAX;
 
@@ -83,35 +84,55 @@ fn timed_ticks<S: Clone>(
     alike
 }
 
-/// The counts of every row of a state, from the same words.
+/// The counts of every row of states in the midst of a run.
 pub fn counts(rng: &mut Rng) -> bool {
-    let states = underway(rng, ROWS);
+    timed_counts("counts", &underway(rng, ROWS))
+}
+
+/// The same where each row has a window of 64 marks, drawn, and an m that it
+/// holds: the m-th met mark is anywhere in it.
+pub fn counts_k_64(rng: &mut Rng) -> bool {
+    let mut states = underway(rng, ROWS);
+    for state in &mut states {
+        let (saved, _) = state[HEAD_WORDS..].as_chunks_mut::<SAVED_ROW_WORDS>();
+        for row in &mut saved[..ROWS] {
+            let window = rng.bits();
+            row[4] = rng.between(1, window.count_ones().into());
+            row[5] = K_MAX.into();
+            row[11] = window;
+        }
+    }
+    timed_counts("counts_k_64", &states)
+}
+
+/// The counts of every row of the states, from the same words.
+fn timed_counts(name: &str, states: &[Saved]) -> bool {
     let (mut room, mut peer_room) = ([0; COUNT_WORDS], [0; COUNT_WORDS]);
-    for state in &states {
+    for state in states {
         for row in 0..ROWS as u32 {
             let ours = ffi::counts(state, row, &mut room);
             let peer = counts_words(state, row, &mut peer_room);
             if ours != peer || !ours.is_accepted() || room != peer_room {
-                println!("bench counts {row} {state:?} ours {room:?} peer {peer_room:?}");
+                println!("bench {name} {row} {state:?} ours {room:?} peer {peer_room:?}");
                 return false;
             }
         }
     }
     let mut ours = || {
-        for state in black_box(&states) {
+        for state in black_box(states) {
             for row in 0..ROWS as u32 {
                 black_box((ffi::counts(state, row, &mut room), &room));
             }
         }
     };
     let mut peer = || {
-        for state in black_box(&states) {
+        for state in black_box(states) {
             for row in 0..ROWS as u32 {
                 black_box((counts_words(state, row, &mut peer_room), &peer_room));
             }
         }
     };
-    line("counts", TABLES * ROWS, &mut ours, &mut peer);
+    line(name, TABLES * ROWS, &mut ours, &mut peer);
     true
 }
 
