@@ -133,7 +133,8 @@ enum gp_count {
     GP_COUNT_OM = 3,
     GP_COUNT_OX = 4,
     GP_COUNT_BROKEN = 5,
-    GP_COUNT_SPARE = 6  /* met marks in the window less m, or 0: how many further misses the task can bear */
+    GP_COUNT_SPARE = 6  /* misses left: so many further misses in a row leave the window at least m met marks, and one more does not;
+                           0 also where it holds fewer than m already */
 };
 
 /*

@@ -29,7 +29,8 @@ pub struct Counts {
     pub ox: u64,
     /// Settlings after which the window held fewer than m met marks.
     pub broken: u64,
-    /// Met marks in the window less m, or 0: how many further misses the task can bear.
+    /// Misses left: so many further misses in a row leave the window at least m met marks, and one more does not. 0 also where it
+    /// holds fewer than m already.
     pub spare: u64,
 }
 

@@ -55,6 +55,17 @@ fn document_01s_counts() -> Result<(), Refusal> {
     Ok(())
 }
 
+/// One met mark of three is enough for the row: as the oldest mark it is lost with the next miss, as the newest it outlasts two.
+#[test]
+fn spare_is_the_misses_left() -> Result<(), Refusal> {
+    let mut state = State::fresh(&[1, 2, 3, 3, 1, 3, 2, 7, 9, 9, 1, 1])?;
+    state.run(9)?;
+    assert_eq!(state.counts(0).map(|row| row.spare), Some(0));
+    state.run(3)?;
+    assert_eq!(state.counts(0).map(|row| row.spare), Some(2));
+    Ok(())
+}
+
 #[test]
 fn a_run_is_its_ticks_in_any_pieces() -> Result<(), Refusal> {
     let mut whole = State::fresh(&TABLE)?;

@@ -12,7 +12,8 @@ use rows::row_at;
 use tally::spare;
 use tick::rows_of;
 
-// Released jobs, mandatory met and missed, optional met and missed, broken windows, and how many further misses the task can bear.
+// Released jobs, mandatory met and missed, optional met and missed, broken windows, and spare: how many further misses in a row are
+// harmless.
 pub struct Counts {
     pub released: u64,
     pub mm: u64,

@@ -189,7 +189,7 @@ pub extern "C" fn gp_run(state: &mut [u64], n: u32) -> Answer
 }
 
 // The counts of one row of a saved state, in seven words of a room: released, mandatory met, mandatory missed, optional met, optional missed,
-// broken windows, spare. Where there is no such row, all are 0.
+// broken windows, spare (misses left). Where there is no such row, all are 0.
 #[no_mangle]
 pub extern "C" fn gp_counts(state: &[u64], row: u32, room: &mut [u64]) -> Answer
     ensures answer { λ a. ⌜ a ≡ numbered (countsAnswer (now (state .entry)) (length (now (room .entry)))) ⌝ }

@@ -1,8 +1,8 @@
 -- `tally::spare` meets its contract: the marks taken in are the newest k - n, and spare is still to come, from n down.
 use mathlib.Core.Path.{_≡_, sym, ap, _∙_}
-use Prim.Native.Nat.{ℕ, suc, _+_, _-_, _/_, _^_}
+use Prim.Native.Nat.{ℕ, suc, _+_, _-_, _/_, _%_, _^_}
 use native.Mathlib.Omega.{arith}
-use lib.Bits.{bitAnd}
+use lib.Bits.{bitAnd, and-mask}
 use borrow.Author.Tests.{le-leb, lt-leb}
 use Rattle.law.specs.Tick.{marks, stillHold, spare}
 use Rattle.law.proofs.First.{SearchedDown, down-start, down-hit, down-end, down-next}
@@ -27,25 +27,20 @@ unfolding spare
 returns c = sym (down-end (c .before .before .loop .inv .0) (c .if1 .taken))
 
 sub-met : tie.Need-sub-met Inv-loop μ-loop
-sub-met c = c .before .before .loop .inv .0 .reached
+sub-met c = omega (arith, c .before .before .loop .inv .0 .reached, c .if1 .left)
 
 shr-met : tie.Need-shr-met Inv-loop μ-loop
-shr-met c = omega (arith, c .before .before .before .pre, c .if1 .left)
+shr-met c = omega (arith, c .before .before .before .pre, c .before .before .loop .inv .0 .reached, c .if1 .left)
 
--- the mark taken in is the next
-taken : (c : tie.Else1 Inv-loop μ-loop)
-    → let l = c .before .before .loop in let a = c .before .before .before .args in
-    l .met + bitAnd (a .window / 2 ^ (a .k - l .n)) 1 ≡ marks (suc (a .k - l .n)) (a .window)
-taken c =
-    let l = c .before .before .loop in
-    let a = c .before .before .before .args in
-    omega (arith, l .inv .1, marks-next (a .k - l .n) (a .window))
+-- a mark is 0 or 1, whichever is read
+mark-low : (x : ℕ) → bitAnd x 1 ≡ x % 2
+mark-low x = and-mask x 1
 
 add-met : tie.Need-add-met Inv-loop μ-loop
 add-met c =
     let l = c .before .before .loop in
     let a = c .before .before .before .args in
-    omega (arith, taken c, marks-most (suc (a .k - l .n)) (a .window), c .before .before .before .pre)
+    simp mark-low (omega (arith, l .inv .1, marks-most (a .k - l .n) (a .window), c .before .before .before .pre))
 
 sub-n : tie.Need-sub-n Inv-loop μ-loop
 sub-n c = omega (arith, c .if1 .left)
@@ -59,7 +54,9 @@ loop-again c =
     let a = c .before .before .before .args in
     let short = lt-leb (a .m) (marks (a .k - l .n) (a .window)) (omega (arith, l .inv .1, c .before .loop-test .taken)) in
     let more : suc (a .k - l .n) ≡ a .k - (l .n - 1) = omega (arith, l .inv .0 .reached, c .if1 .left) in
-    (down-next (l .inv .0) (l .n - 1) (omega (arith, c .if1 .left)) short, taken c ∙ ap (λ (z : ℕ). marks z (a .window)) more)
+    let taken : l .met + bitAnd (a .window / 2 ^ (a .k - l .n)) 1 ≡ marks (suc (a .k - l .n)) (a .window)
+    = omega (arith, l .inv .1, marks-next (a .k - l .n) (a .window)) in
+    (down-next (l .inv .0) (l .n - 1) (omega (arith, c .if1 .left)) short, taken ∙ ap (λ (z : ℕ). marks z (a .window)) more)
 
 returns-2 : tie.Need-returns-2 Inv-loop μ-loop
 unfolding spare
