@@ -2,8 +2,8 @@
  * Galleypoppy for firmware: patterns, verdict, dispatcher, task text.
  *
  * The functions of `crates/stand_c`, built into `target/staticlib/libstand_c.a` by `rt staticlib stand_c` for x86-64 Linux (the
- * System V calling convention, a 64-bit size_t). Each of them is proved to give the answer that document 01 names, on every input,
- * provided that the caller keeps to "What a caller owes" below and the compiler's back end is right.
+ * System V calling convention, a 64-bit size_t). Each of them is proved to give the answer that document 01 names (spare: document 02,
+ * 1/14), on every input, provided that the caller keeps to "What a caller owes" below and the compiler's back end is right.
  *
  * What the functions do not do: allocate, keep anything between calls, read or write anything but the lent runs, stop or jump out.
  * They can be called at the same time on different runs. The archive has no writable data, and the only outside symbols it asks for
@@ -134,7 +134,7 @@ enum gp_count {
     GP_COUNT_OX = 4,
     GP_COUNT_BROKEN = 5,
     GP_COUNT_SPARE = 6  /* misses left: so many further misses in a row leave the window at least m met marks, and one more does not;
-                           0 also where it holds fewer than m already */
+                           0 also where it holds fewer than m already: the set bits of GP_WINDOW, counted, and GP_M tell */
 };
 
 /*

@@ -1,7 +1,7 @@
 //! Galleypoppy for firmware in Rust: patterns, verdict, dispatcher and task text of the music stand's scheduler.
 //!
-//! The work is done by the functions of `crates/stand_c`, each proved to give the answer that document 01 names on every input. This
-//! package lends them slices, so that what a caller in C owes (true lengths, alignment, no overlap) is kept by the types. It does
+//! The work is done by the functions of `crates/stand_c`, each proved to give the answer that document 01 names (spare: document
+//! 02, 1/14) on every input. This package lends them slices, so that what a caller in C owes (true lengths, alignment, no overlap) is kept by the types. It does
 //! not allocate, it does not panic, and all its `unsafe` is in one module.
 //!
 //! A refused call alters nothing that was lent. An accepted one alters only the part of the room that its answer fills, from the

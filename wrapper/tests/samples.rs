@@ -10,8 +10,9 @@ fn folder() -> PathBuf {
     Path::new(env!("CARGO_MANIFEST_DIR")).join("../samples")
 }
 
-const NAMES: [&str; 5] = [
+const NAMES: [&str; 6] = [
     "documents_example",
+    "misses_left",
     "music_stand",
     "refused",
     "thirty_two_rows",
@@ -19,7 +20,7 @@ const NAMES: [&str; 5] = [
 ];
 
 /// Each input with the output that stands beside it.
-fn samples() -> [(Vec<u8>, Vec<u8>); 5] {
+fn samples() -> [(Vec<u8>, Vec<u8>); 6] {
     NAMES.map(|name| {
         let path = folder().join(name);
         let bytes = |end| fs::read(path.with_extension(end)).expect("a file of the sample");

@@ -22,6 +22,7 @@ marksHeld words i = marks (rowSeen words i .core .task .k) (rowSeen words i .tal
 abbrev pub spareShown : List ℕ → ℕ → List ℕ → ℕ
 spareShown words i room = getD (countsRoom words i room) 6 0
 
+-- For a counts question that was accepted and a row of the state.
 -- Where the window holds m now, so many further misses in a row are harmless and one more is not (`exact`); "if the whole window holds fewer than
 -- m it is 0" (`short`); the figure before the request, met marks less m, is never above it (`no-less`).
 pub record SpareTells (words : List ℕ) (i : ℕ) (room : List ℕ) : Type 0 where

@@ -55,7 +55,7 @@ fn one_if_short(window: u64, m: u64, k: u64) -> u64
 }
 
 // How many further misses in a row the task can bear. From the newest mark on, marks are taken in until m of them are met: the n marks not taken
-// in may go.
+// in may go. 0 where all k don't hold m.
 pub fn spare(window: u64, m: u64, k: u64) -> u64
     requires { ⌜ k ≤ 64 ⌝ }
     ensures { λ r. ⌜ r ≡ spareLaw m k window ⌝ }
