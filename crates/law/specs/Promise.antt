@@ -7,7 +7,7 @@ use lib.Dec.{leb, ltb, eqb}
 use lib.ListN.{length, getD}
 use Rattle.law.specs.Sums.{bit, pick, firstFrom, among}
 use Rattle.law.specs.Table.{Task, row, kindOf}
-use Rattle.law.specs.Verdict.{response, admitted}
+use Rattle.law.specs.Verdict.{response}
 use Rattle.law.specs.Tick.{Row, Tally, State, Outcome, nothing, met, missed, coreAt, noRow, live, outcome, choose, fullLength, releaseAll, fresh, run, marks, amended}
 
 -- the state after t ticks from fresh

@@ -1,8 +1,8 @@
 -- The spare that the counts question lays into a room is the law's, so it tells the misses left.
 use mathlib.Core.Bool.{true}
 use mathlib.Core.List.{List}
-use mathlib.Core.Path.{_≡_, refl, sym, ap, _∙_, subst}
-use Prim.Native.Nat.{ℕ, _-_, _≤_, _<_}
+use mathlib.Core.Path.{_≡_, sym, ap, _∙_, subst}
+use Prim.Native.Nat.{ℕ, _≤_, _<_}
 use native.Mathlib.Decide.{decLe}
 use native.Mathlib.Omega.{arith}
 use lib.ListN.{length, getD}
@@ -13,7 +13,7 @@ use Rattle.law.specs.Promise.{MissesLeft}
 use Rattle.law.proofs.Spare.{spare-exact, spare-short, spare-met}
 use Rattle.law.proofs.Tests.{passes, fails, known}
 use Rattle.dispatch.proofs.Saved.{saved-held, counts-ill, counts-short, counts-laid}
-use Rattle.promise.specs.MissesLeft.{rowSeen, marksAsked, marksHeld, spareShown, SpareTells}
+use Rattle.promise.specs.MissesLeft.{rowSeen, marksAsked, spareShown, SpareTells}
 
 module _ (words : List ℕ) (i : ℕ) (room vs : List ℕ) (e : countsAnswer words (length room) ≡ accepted vs) where
   good : savedWell words ≡ true

@@ -1,13 +1,13 @@
 -- The counts of a row of a well-formed state are numbers of 32 bits, and rows are printed one behind the other.
 use mathlib.Core.List.{List, [], _∷_}
 use mathlib.Core.Path.{_≡_, refl, sym, ap, _∙_}
-use Prim.Native.Nat.{ℕ, _+_, _-_, _*_, _≤_}
+use Prim.Native.Nat.{ℕ, _+_, _*_, _≤_}
 use native.Mathlib.Numerals.{add-one}
 use native.Mathlib.Omega.{arith}
 use lib.ListN.{length, length-append}
 use borrow.Author.Tests.{le-leb}
 use Rattle.law.specs.Sums.{every}
-use Rattle.law.specs.Table.{Task, row}
+use Rattle.law.specs.Table.{Task}
 use Rattle.law.specs.Tick.{Row, State, clockEnd}
 use Rattle.law.specs.State.{countsOf, settledCounts}
 use Rattle.law.specs.Sound.{SoundRow}

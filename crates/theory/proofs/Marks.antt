@@ -1,11 +1,10 @@
 -- A window shows its row's newest settled jobs bit by bit, one more with each shift; if it shows every mandatory one met, it holds m marks.
 use mathlib.Core.Bool.{Bool, true, false}
 use mathlib.Core.Path.{_≡_, refl, sym, ap, _∙_}
-use Prim.Native.Nat.{ℕ, zero, suc, _+_, _-_, _*_, _/_, _%_, _^_, _≤_, _<_}
+use Prim.Native.Nat.{ℕ, zero, suc, _+_, _-_, _/_, _%_, _^_, _≤_, _<_}
 use native.Mathlib.Decide.{decLt}
 use native.Mathlib.Nat.{zero-add, sub-zero, pow-suc}
 use native.Mathlib.Omega.{arith}
-use native.Mathlib.Numerals.{add-one}
 use lib.Dec.{eqb, ltb}
 use lib.Pow.{pow-pos, high, ones-lt, ones-split}
 use borrow.Author.Tests.{lt-ltb, le-ltb}
