@@ -1,6 +1,6 @@
 // The pattern book of document 01: one 64-bit word for each pair (m,k), the pair's word at place k(k-1)/2 + m - 1.
 // Bit a, for a below k, is set exactly when job a is mandatory; higher bits are clear.
-pub const BOOK: [u64; 2080] = [
+pub(crate) const BOOK: [u64; 2080] = [
     1,
     1,
     3,

@@ -40,7 +40,7 @@ fn printed_place(r: Refusal, start: u64) -> u64
 }
 
 // A refusal: its number, then the row or place where there is one.
-pub fn print_refusal(out: &mut [u8], r: Refusal, start: u64) -> usize
+pub(crate) fn print_refusal(out: &mut [u8], r: Refusal, start: u64) -> usize
     requires { ⌜ (length (now out) ≡ 5120) × (start + head (alsoOf r) ≤ 4294967295) ⌝ }
     ensures place { λ n. ⌜ n ≡ length (refusalPrinted (numberOf r) (placed start (numberOf r) (alsoOf r))) ⌝ }
     ensures bytes { λ n. ⌜ now (out .exit) ≡ putAt (now (out .entry)) 0 (refusalPrinted (numberOf r) (placed start (numberOf r) (alsoOf r))) ⌝ }
@@ -104,7 +104,7 @@ fn print_rows(out: &mut [u8], at: usize, words: &[u32], times: &[u32], state: &[
 }
 
 // A table, its verdict, and its state after so many ticks from fresh.
-pub fn print_run(out: &mut [u8], words: &[u32], ticks: u32) -> usize
+pub(crate) fn print_run(out: &mut [u8], words: &[u32], ticks: u32) -> usize
     requires { ⌜ (length (now out) ≡ 5120) × (Good (now words)) ⌝ }
     ensures place { λ n. ⌜ n ≡ length (runPrinted (tableOf (now (words .entry))) ticks) ⌝ }
     ensures bytes { λ n. ⌜ now (out .exit) ≡ putAt (now (out .entry)) 0 (runPrinted (tableOf (now (words .entry))) ticks) ⌝ }

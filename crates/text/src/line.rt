@@ -127,7 +127,7 @@ pub fn line_at(text: &[u8], at: usize, key: &[u8]) -> Value
 }
 
 // The line that is due at a place: "Which key is due is decided by the line's number within its row."
-pub fn due_at(text: &[u8], at: usize, j: usize) -> Value
+pub(crate) fn due_at(text: &[u8], at: usize, j: usize) -> Value
     requires { ⌜ (at ≤ length (now text)) × (j < 6) ⌝ }
     ensures { λ r. ⌜ said r ≡ lineAt (now (text .entry)) at (getD rowKeys j []) ⌝ }
 {

@@ -18,7 +18,7 @@ use table::check;
 use table::lay;
 
 // Where a run of lines ends: the place after them; or the place of a fault.
-pub enum Rest {
+pub(crate) enum Rest {
     Next(usize),
     Broken(usize),
 }

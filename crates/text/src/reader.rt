@@ -10,7 +10,7 @@ use crate::line::Value;
 use crate::line::due_at;
 
 // The lent text and the place to read from.
-pub struct Reader<'a> {
+pub(crate) struct Reader<'a> {
     pub text: &'a [u8],
     pub at: usize,
 }
@@ -31,7 +31,7 @@ fn next_value<'a>(r: Reader<'a>, j: usize) -> Value
 }
 
 // The same for callers that hold the text and the place apart.
-pub fn value_from(text: &[u8], at: usize, j: usize) -> Value
+pub(crate) fn value_from(text: &[u8], at: usize, j: usize) -> Value
     requires { ⌜ (at ≤ length (now text)) × (j < 6) ⌝ }
     ensures { λ v. ⌜ said v ≡ lineAt (now (text .entry)) at (getD rowKeys j []) ⌝ }
 {

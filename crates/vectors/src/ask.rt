@@ -10,7 +10,7 @@ use table::Checked;
 use verdict::Verdict;
 
 // `1 m k job`: 1 for mandatory, 0 for optional.
-pub fn job(case: &[u64]) {
+pub(crate) fn job(case: &[u64]) {
     match book::ask(low_at(case, 1), low_at(case, 2), low_at(case, 3)) {
         Job::Mandatory => show::accepted(1),
         Job::Optional => show::accepted(0),
@@ -19,7 +19,7 @@ pub fn job(case: &[u64]) {
 }
 
 // `2 m k`: the pattern word.
-pub fn word(case: &[u64]) {
+pub(crate) fn word(case: &[u64]) {
     match book::word_of(low_at(case, 1), low_at(case, 2)) {
         Word::Is(word) => show::accepted(word),
         Word::Refused(r) => show::refused(r),
@@ -27,7 +27,7 @@ pub fn word(case: &[u64]) {
 }
 
 // `3 words`: the number of rows.
-pub fn check(case: &[u64]) {
+pub(crate) fn check(case: &[u64]) {
     let mut table = [0u32; 256];
     let n = words_of(case, 1, &mut table);
     match table::check(&table[..n]) {
@@ -45,7 +45,7 @@ fn judge_in(table: &[u32], room: &mut [u32]) {
 }
 
 // `4 length words`: the number of rows, and every word of a room of that length, at most 64.
-pub fn judge(case: &[u64]) {
+pub(crate) fn judge(case: &[u64]) {
     let mut table = [0u32; 256];
     let mut room = [BEFORE; 64];
     let n = words_of(case, 2, &mut table);

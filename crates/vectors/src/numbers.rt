@@ -6,7 +6,7 @@ ghost use Rattle.io.specs.Counts.{Counts};
 use std::num::wrapping_add_u64;
 
 // Where the line that begins at a place ends: after its LF, or with the text.
-pub fn line_end(text: &[u8], from: usize) -> usize
+pub(crate) fn line_end(text: &[u8], from: usize) -> usize
     requires { ⌜ from < length (now text) ⌝ }
     ensures { λ r. ⌜ (from < r) × (r ≤ length (now (text .entry))) ⌝ }
 {
@@ -51,7 +51,7 @@ fn put(room: &mut [u64], place: usize, number: u64) -> usize
 }
 
 // The numbers of a line, laid into a room: how many there are.
-pub fn numbers_of(line: &[u8], room: &mut [u64]) -> usize
+pub(crate) fn numbers_of(line: &[u8], room: &mut [u64]) -> usize
     ensures { λ r. ⌜ Counts r (now (room .exit)) ⌝ }
 {
     let mut number = 0;
@@ -71,22 +71,22 @@ pub fn numbers_of(line: &[u8], room: &mut [u64]) -> usize
 }
 
 // A number of a case; one that is missing is 0.
-pub fn number_at(case: &[u64], i: usize) -> u64 {
+pub(crate) fn number_at(case: &[u64], i: usize) -> u64 {
     if i < case.len() { case[i] } else { 0 }
 }
 
 // The low 32 bits of a number.
-pub fn low(number: u64) -> u32 {
+pub(crate) fn low(number: u64) -> u32 {
     (number % 4294967296) as u32
 }
 
 // The same of a number of a case.
-pub fn low_at(case: &[u64], i: usize) -> u32 {
+pub(crate) fn low_at(case: &[u64], i: usize) -> u32 {
     low(number_at(case, i))
 }
 
 // A length that a case asks for, held to the most that there is.
-pub fn held(asked: u64, most: usize) -> usize
+pub(crate) fn held(asked: u64, most: usize) -> usize
     ensures { λ r. ⌜ r ≤ most ⌝ }
 {
     if asked < most as u64 {
@@ -97,28 +97,28 @@ pub fn held(asked: u64, most: usize) -> usize
 }
 
 // How much of a room of words a case asks for.
-pub fn part_of(case: &[u64], i: usize, room: &[u32]) -> usize
+pub(crate) fn part_of(case: &[u64], i: usize, room: &[u32]) -> usize
     ensures { λ r. ⌜ Counts r (now (room .entry)) ⌝ }
 {
     held(number_at(case, i), room.len())
 }
 
 // The same of a room of wide words.
-pub fn wide_part_of(case: &[u64], i: usize, room: &[u64]) -> usize
+pub(crate) fn wide_part_of(case: &[u64], i: usize, room: &[u64]) -> usize
     ensures { λ r. ⌜ Counts r (now (room .entry)) ⌝ }
 {
     held(number_at(case, i), room.len())
 }
 
 // The same of a room of bytes.
-pub fn byte_part_of(case: &[u64], i: usize, room: &[u8]) -> usize
+pub(crate) fn byte_part_of(case: &[u64], i: usize, room: &[u8]) -> usize
     ensures { λ r. ⌜ Counts r (now (room .entry)) ⌝ }
 {
     held(number_at(case, i), room.len())
 }
 
 // The words of a table, which are the last numbers of a case: how many there are.
-pub fn words_of(case: &[u64], from: usize, room: &mut [u32]) -> usize
+pub(crate) fn words_of(case: &[u64], from: usize, room: &mut [u32]) -> usize
     requires { ⌜ from ≤ 7 ⌝ }
     ensures { λ r. ⌜ Counts r (now (room .exit)) ⌝ }
 {
@@ -139,7 +139,7 @@ fn low_byte(number: u64) -> u8 {
 }
 
 // The bytes of a text, which are the last numbers of a case: how many there are.
-pub fn bytes_of(case: &[u64], from: usize, room: &mut [u8]) -> usize
+pub(crate) fn bytes_of(case: &[u64], from: usize, room: &mut [u8]) -> usize
     requires { ⌜ from ≤ 7 ⌝ }
     ensures { λ r. ⌜ Counts r (now (room .exit)) ⌝ }
 {

@@ -21,7 +21,7 @@ fn fresh_in(table: &[u32], state: &mut [u64]) {
 }
 
 // `5 length words`: the number of rows, and the state.
-pub fn fresh(case: &[u64]) {
+pub(crate) fn fresh(case: &[u64]) {
     let mut table = [0u32; 256];
     let mut state = [BEFORE as u64; 640];
     let n = words_of(case, 2, &mut table);
@@ -66,7 +66,7 @@ fn damaged_in(case: &[u64], table: &[u32], state: &mut [u64]) {
 
 // `6 length n place value more words`: fresh, n ticks, the word at the place changed, well formed or not, a tick, more ticks; an answer of
 // each but the change, and the state.
-pub fn damaged(case: &[u64]) {
+pub(crate) fn damaged(case: &[u64]) {
     let mut table = [0u32; 256];
     let mut state = [BEFORE as u64; 640];
     let n = words_of(case, 6, &mut table);
@@ -82,7 +82,7 @@ fn counts_in(case: &[u64], table: &[u32], state: &mut [u64], room: &mut [u64]) {
 
 // `7 length n place value row room words`: fresh, n ticks, the word at the place changed, the counts of the row in a room of that length, at
 // most 16; an answer of each but the change, and every word of the room.
-pub fn counts(case: &[u64]) {
+pub(crate) fn counts(case: &[u64]) {
     let mut table = [0u32; 256];
     let mut state = [BEFORE as u64; 640];
     let mut room = [BEFORE as u64; 16];

@@ -6,26 +6,26 @@ use libc::STDOUT_FILENO;
 use refusal::Refusal;
 
 // What a room holds before a call.
-pub const BEFORE: u32 = 4000000007;
+pub(crate) const BEFORE: u32 = 4000000007;
 
-pub const BYTE_BEFORE: u8 = 255;
+pub(crate) const BYTE_BEFORE: u8 = 255;
 
-pub fn number(x: u64) {
+pub(crate) fn number(x: u64) {
     io::write_all(STDOUT_FILENO, b" ");
     io::print_decimal(STDOUT_FILENO, x);
 }
 
-pub fn accepted(value: u64) {
+pub(crate) fn accepted(value: u64) {
     number(0);
     number(value);
 }
 
-pub fn refused(r: Refusal) {
+pub(crate) fn refused(r: Refusal) {
     number(refusal::number(r));
     number(refusal::also(r));
 }
 
-pub fn ran(r: Ran) {
+pub(crate) fn ran(r: Ran) {
     match r {
         Ran::Done => accepted(0),
         Ran::Refused(refusal) => refused(refusal),
@@ -37,7 +37,7 @@ fn wide(word: u32) -> u64 {
 }
 
 // Every word of a room.
-pub fn words(room: &[u32]) {
+pub(crate) fn words(room: &[u32]) {
     let mut i = 0;
     while i < room.len() {
         number(wide(room[i]));
@@ -46,7 +46,7 @@ pub fn words(room: &[u32]) {
 }
 
 // The same of wide words.
-pub fn wide_words(room: &[u64]) {
+pub(crate) fn wide_words(room: &[u64]) {
     let mut i = 0;
     while i < room.len() {
         number(room[i]);
@@ -59,7 +59,7 @@ fn wide_byte(byte: u8) -> u64 {
 }
 
 // The same of bytes.
-pub fn bytes(room: &[u8]) {
+pub(crate) fn bytes(room: &[u8]) {
     let mut i = 0;
     while i < room.len() {
         number(wide_byte(room[i]));
@@ -94,7 +94,7 @@ fn state_length(state: &[u64]) -> usize
 }
 
 // A room for a state: its rows word by word, and all of it by its digest.
-pub fn state(room: &[u64]) {
+pub(crate) fn state(room: &[u64]) {
     let n = state_length(room);
     wide_words(&room[..n]);
     number(digest(room));

@@ -19,7 +19,7 @@ fn read_in(text: &[u8], room: &mut [u32]) {
 }
 
 // `8 length bytes`: the number of rows, and every word of a room of that length, at most 256.
-pub fn read(case: &[u64]) {
+pub(crate) fn read(case: &[u64]) {
     let mut bytes = [0u8; 2048];
     let mut room = [BEFORE; 256];
     let n = bytes_of(case, 2, &mut bytes);
@@ -36,7 +36,7 @@ fn write_in(table: &[u32], room: &mut [u8]) {
 }
 
 // `9 length words`: the length of the text, and every byte of a room of that length, at most 4,096.
-pub fn write(case: &[u64]) {
+pub(crate) fn write(case: &[u64]) {
     let mut table = [0u32; 256];
     let mut room = [BYTE_BEFORE; 4096];
     let n = words_of(case, 2, &mut table);
@@ -53,7 +53,7 @@ fn report_in(input: &[u8], room: &mut [u8]) {
 }
 
 // `10 length bytes`: the length of what the printing program prints, and every byte of a room of that length, at most 4,096.
-pub fn print(case: &[u64]) {
+pub(crate) fn print(case: &[u64]) {
     let mut bytes = [0u8; 2048];
     let mut room = [BYTE_BEFORE; 4096];
     let n = bytes_of(case, 2, &mut bytes);

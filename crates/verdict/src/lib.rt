@@ -22,13 +22,13 @@ pub enum Verdict {
 }
 
 // What the search of a row finds.
-pub enum Fit {
+enum Fit {
     At(u64),
     Never,
 }
 
 // The rows tried: the first that doesn't fit, or their number where all do; and the response times of those before it.
-pub struct Responses {
+struct Responses {
     pub misfit: usize,
     pub times: [u32; 32],
 }
