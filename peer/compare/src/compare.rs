@@ -11,16 +11,36 @@ mod verdict;
 
 use crate::course::{Compared, Course, Difference};
 
+type Run = fn(&mut Course) -> Compared;
+
 pub struct Comparison {
     pub name: &'static str,
     /// Whether another seed brings other cases; if not, once is enough.
     pub drawn: bool,
     /// The refusal numbers that its cases must bring about, 0 for accepted.
-    pub due: &'static [u64],
-    pub run: fn(&mut Course) -> Compared,
+    due: &'static [u64],
+    run: Run,
 }
 
 impl Comparison {
+    /// One whose cases are drawn.
+    const fn drawn(name: &'static str, due: &'static [u64], run: Run) -> Comparison {
+        Comparison {
+            name,
+            drawn: true,
+            due,
+            run,
+        }
+    }
+
+    /// One whose cases are the same whatever the seed.
+    const fn fixed(name: &'static str, due: &'static [u64], run: Run) -> Comparison {
+        Comparison {
+            drawn: false,
+            ..Comparison::drawn(name, due, run)
+        }
+    }
+
     /// Runs every case that the seed brings.
     pub fn course(&self, seed: u64) -> Result<Course, Difference> {
         let mut course = Course::new(seed, self.name);

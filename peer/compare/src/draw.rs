@@ -10,7 +10,9 @@ pub use limit::{
 };
 pub use states::{every_bit, row_counts, state_lengths, state_room, state_room_of, ticks};
 pub use tables::{any_table, damaged, faults_in, off_six, rubbish, run_table, sound, FAULTS};
-pub use texts::{any_values, byte_room, byte_room_of, changed, deleted, inserted, miswritten};
+pub use texts::{
+    any_values, byte_room, byte_room_of, changed, deleted, every_change, inserted, miswritten,
+};
 pub use texts::{nameable, one_row_with, rubbish_after, short_text, widest, with_crs};
 pub use texts::{TELLING, VALUE_MAX};
 

@@ -37,66 +37,16 @@ const RENUMBERED: u32 = 20;
 const ROOM: usize = COUNT_WORDS + 2;
 
 pub const ALL: &[Comparison] = &[
-    Comparison {
-        name: "counts_runs",
-        drawn: true,
-        due: &[0, 13],
-        run: runs,
-    },
-    Comparison {
-        name: "counts_drawn",
-        drawn: true,
-        due: &[0, 13],
-        run: drawn,
-    },
-    Comparison {
-        name: "counts_rooms",
-        drawn: true,
-        due: &[0, 13, 14],
-        run: rooms,
-    },
-    Comparison {
-        name: "counts_damaged",
-        drawn: true,
-        due: &[0, 13, 14],
-        run: damaged,
-    },
-    Comparison {
-        name: "counts_scrambled",
-        drawn: true,
-        due: &[0, 13, 14],
-        run: scrambled,
-    },
-    Comparison {
-        name: "counts_bits",
-        drawn: true,
-        due: &[0, 14],
-        run: bits,
-    },
-    Comparison {
-        name: "counts_lengths",
-        drawn: true,
-        due: &[0, 14],
-        run: lengths,
-    },
-    Comparison {
-        name: "counts_row_numbers",
-        drawn: true,
-        due: &[0, 14],
-        run: row_numbers,
-    },
-    Comparison {
-        name: "counts_windows",
-        drawn: false,
-        due: &[0],
-        run: windows::all,
-    },
-    Comparison {
-        name: "counts_windows_drawn",
-        drawn: true,
-        due: &[0],
-        run: windows::drawn,
-    },
+    Comparison::drawn("counts_runs", &[0, 13], runs),
+    Comparison::drawn("counts_drawn", &[0, 13], drawn),
+    Comparison::drawn("counts_rooms", &[0, 13, 14], rooms),
+    Comparison::drawn("counts_damaged", &[0, 13, 14], damaged),
+    Comparison::drawn("counts_scrambled", &[0, 13, 14], scrambled),
+    Comparison::drawn("counts_bits", &[0, 14], bits),
+    Comparison::drawn("counts_lengths", &[0, 14], lengths),
+    Comparison::drawn("counts_row_numbers", &[0, 14], row_numbers),
+    Comparison::fixed("counts_windows", &[0], windows::all),
+    Comparison::drawn("counts_windows_drawn", &[0], windows::drawn),
 ];
 
 /// Every row that a state can have and some past the last; rows whose low bits

@@ -17,90 +17,28 @@ use crate::ffi;
 use crate::lent::Lent;
 
 pub const ALL: &[Comparison] = &[
-    Comparison {
-        name: "dispatch_fresh_lengths",
-        drawn: true,
-        due: &[0, 1, 2, 3, 4, 13],
-        run: fresh::lengths,
-    },
-    Comparison {
-        name: "dispatch_fresh_rooms",
-        drawn: true,
-        due: &[0, 4, 13],
-        run: fresh::rooms,
-    },
-    Comparison {
-        name: "dispatch_fresh_drawn",
-        drawn: true,
-        due: &[0, 1, 2, 3, 4, 5, 6, 7, 8, 9, 10, 13],
-        run: fresh::drawn,
-    },
-    Comparison {
-        name: "dispatch_states_lengths",
-        drawn: true,
-        due: &[0, 14],
-        run: states::lengths,
-    },
-    Comparison {
-        name: "dispatch_states_rows",
-        drawn: true,
-        due: &[0, 14],
-        run: states::rows,
-    },
-    Comparison {
-        name: "dispatch_states_fields",
-        drawn: true,
-        due: &[0, 14, 15],
-        run: states::fields,
-    },
-    Comparison {
-        name: "dispatch_states_bits",
-        drawn: true,
-        due: &[0, 14, 15],
-        run: states::bits,
-    },
-    Comparison {
-        name: "dispatch_states_scrambled",
-        drawn: true,
-        due: &[0, 14, 15],
-        run: states::scrambled,
-    },
-    Comparison {
-        name: "dispatch_ticks_fresh",
-        drawn: true,
-        due: &[0],
-        run: ticks::from_fresh,
-    },
-    Comparison {
-        name: "dispatch_ticks_drawn",
-        drawn: true,
-        due: &[0, 15],
-        run: ticks::drawn,
-    },
-    Comparison {
-        name: "dispatch_runs_drawn",
-        drawn: true,
-        due: &[0, 15],
-        run: runs::drawn,
-    },
-    Comparison {
-        name: "dispatch_runs_clock_end",
-        drawn: true,
-        due: &[0, 14, 15],
-        run: runs::clock_end,
-    },
-    Comparison {
-        name: "dispatch_runs_pieces",
-        drawn: true,
-        due: &[0],
-        run: runs::pieces,
-    },
-    Comparison {
-        name: "dispatch_runs_long",
-        drawn: true,
-        due: &[0],
-        run: runs::long,
-    },
+    Comparison::drawn(
+        "dispatch_fresh_lengths",
+        &[0, 1, 2, 3, 4, 13],
+        fresh::lengths,
+    ),
+    Comparison::drawn("dispatch_fresh_rooms", &[0, 4, 13], fresh::rooms),
+    Comparison::drawn(
+        "dispatch_fresh_drawn",
+        &[0, 1, 2, 3, 4, 5, 6, 7, 8, 9, 10, 13],
+        fresh::drawn,
+    ),
+    Comparison::drawn("dispatch_states_lengths", &[0, 14], states::lengths),
+    Comparison::drawn("dispatch_states_rows", &[0, 14], states::rows),
+    Comparison::drawn("dispatch_states_fields", &[0, 14, 15], states::fields),
+    Comparison::drawn("dispatch_states_bits", &[0, 14, 15], states::bits),
+    Comparison::drawn("dispatch_states_scrambled", &[0, 14, 15], states::scrambled),
+    Comparison::drawn("dispatch_ticks_fresh", &[0], ticks::from_fresh),
+    Comparison::drawn("dispatch_ticks_drawn", &[0, 15], ticks::drawn),
+    Comparison::drawn("dispatch_runs_drawn", &[0, 15], runs::drawn),
+    Comparison::drawn("dispatch_runs_clock_end", &[0, 14, 15], runs::clock_end),
+    Comparison::drawn("dispatch_runs_pieces", &[0], runs::pieces),
+    Comparison::drawn("dispatch_runs_long", &[0], runs::long),
 ];
 
 /// What can be asked of a saved state.

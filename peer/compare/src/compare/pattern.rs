@@ -10,42 +10,12 @@ use crate::draw::{any_word, EDGES};
 use crate::ffi;
 
 pub const ALL: &[Comparison] = &[
-    Comparison {
-        name: "pattern_words",
-        drawn: false,
-        due: &[0],
-        run: words,
-    },
-    Comparison {
-        name: "pattern_words_edges",
-        drawn: true,
-        due: &[0, 8, 9],
-        run: words_edges,
-    },
-    Comparison {
-        name: "pattern_jobs_first",
-        drawn: false,
-        due: &[0],
-        run: jobs_first,
-    },
-    Comparison {
-        name: "pattern_jobs_cycles",
-        drawn: true,
-        due: &[0],
-        run: jobs_cycles,
-    },
-    Comparison {
-        name: "pattern_jobs_edges",
-        drawn: false,
-        due: &[0, 8, 9],
-        run: jobs_edges,
-    },
-    Comparison {
-        name: "pattern_jobs_drawn",
-        drawn: true,
-        due: &[0, 8, 9],
-        run: jobs_drawn,
-    },
+    Comparison::fixed("pattern_words", &[0], words),
+    Comparison::drawn("pattern_words_edges", &[0, 8, 9], words_edges),
+    Comparison::fixed("pattern_jobs_first", &[0], jobs_first),
+    Comparison::drawn("pattern_jobs_cycles", &[0], jobs_cycles),
+    Comparison::fixed("pattern_jobs_edges", &[0, 8, 9], jobs_edges),
+    Comparison::drawn("pattern_jobs_drawn", &[0, 8, 9], jobs_drawn),
 ];
 
 /// Jobs asked about for every pair: three times round the longest pattern.

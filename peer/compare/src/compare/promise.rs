@@ -16,30 +16,10 @@ use crate::draw::{limit_pair, short_cycle_pair, LimitPair, Shape};
 use crate::ffi;
 
 pub const ALL: &[Comparison] = &[
-    Comparison {
-        name: "promise_cycles",
-        drawn: true,
-        due: &[0, 11],
-        run: cycles,
-    },
-    Comparison {
-        name: "promise_drawn",
-        drawn: true,
-        due: &[0, 11],
-        run: drawn,
-    },
-    Comparison {
-        name: "promise_limit",
-        drawn: true,
-        due: &[0, 11],
-        run: limit,
-    },
-    Comparison {
-        name: "promise_large",
-        drawn: true,
-        due: &[0, 11],
-        run: large,
-    },
+    Comparison::drawn("promise_cycles", &[0, 11], cycles),
+    Comparison::drawn("promise_drawn", &[0, 11], drawn),
+    Comparison::drawn("promise_limit", &[0, 11], limit),
+    Comparison::drawn("promise_large", &[0, 11], large),
 ];
 
 /// Pairs of tables with short cycles.

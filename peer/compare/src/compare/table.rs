@@ -13,30 +13,10 @@ use crate::lent::Lent;
 const WORDS_REFUSED: [u64; 11] = [0, 1, 2, 3, 4, 5, 6, 7, 8, 9, 10];
 
 pub const ALL: &[Comparison] = &[
-    Comparison {
-        name: "table_lengths",
-        drawn: true,
-        due: &[0, 1, 2, 3, 4],
-        run: lengths,
-    },
-    Comparison {
-        name: "table_fields",
-        drawn: true,
-        due: &[0, 4, 5, 6, 7, 8, 9, 10],
-        run: fields,
-    },
-    Comparison {
-        name: "table_fault_sets",
-        drawn: true,
-        due: &[0, 4, 5, 6, 7, 8, 9, 10],
-        run: fault_sets,
-    },
-    Comparison {
-        name: "table_drawn",
-        drawn: true,
-        due: &WORDS_REFUSED,
-        run: drawn,
-    },
+    Comparison::drawn("table_lengths", &[0, 1, 2, 3, 4], lengths),
+    Comparison::drawn("table_fields", &[0, 4, 5, 6, 7, 8, 9, 10], fields),
+    Comparison::drawn("table_fault_sets", &[0, 4, 5, 6, 7, 8, 9, 10], fault_sets),
+    Comparison::drawn("table_drawn", &WORDS_REFUSED, drawn),
 ];
 
 /// Tables drawn freely.

@@ -13,42 +13,12 @@ use crate::ffi;
 use crate::lent::Lent;
 
 pub const ALL: &[Comparison] = &[
-    Comparison {
-        name: "verdict_rooms",
-        drawn: true,
-        due: &[0, 11, 13],
-        run: rooms,
-    },
-    Comparison {
-        name: "verdict_small",
-        drawn: false,
-        due: &[0, 11],
-        run: small,
-    },
-    Comparison {
-        name: "verdict_drawn",
-        drawn: true,
-        due: &[0, 11, 13],
-        run: drawn,
-    },
-    Comparison {
-        name: "verdict_limit",
-        drawn: true,
-        due: &[0, 11, 13],
-        run: limit,
-    },
-    Comparison {
-        name: "verdict_slow",
-        drawn: true,
-        due: &[0, 11, 13],
-        run: slow,
-    },
-    Comparison {
-        name: "verdict_large",
-        drawn: true,
-        due: &[0, 11, 13],
-        run: large,
-    },
+    Comparison::drawn("verdict_rooms", &[0, 11, 13], rooms),
+    Comparison::fixed("verdict_small", &[0, 11], small),
+    Comparison::drawn("verdict_drawn", &[0, 11, 13], drawn),
+    Comparison::drawn("verdict_limit", &[0, 11, 13], limit),
+    Comparison::drawn("verdict_slow", &[0, 11, 13], slow),
+    Comparison::drawn("verdict_large", &[0, 11, 13], large),
 ];
 
 /// Tables drawn with periods of up to a thousand ticks.

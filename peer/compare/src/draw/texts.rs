@@ -101,6 +101,18 @@ pub fn deleted(text: &[u8], at: usize, bytes: usize) -> Vec<u8> {
     [&text[..at], &text[end..]].concat()
 }
 
+/// A text with each byte changed to each of these, each put in at every place, and
+/// one to three bytes taken out at every place.
+pub fn every_change<'a>(text: &'a [u8], bytes: &'a [u8]) -> impl Iterator<Item = Vec<u8>> + 'a {
+    (0..=text.len()).flat_map(move |at| {
+        let put = bytes.iter().flat_map(move |&byte| {
+            let in_place = (at < text.len()).then(|| changed(text, at, byte));
+            in_place.into_iter().chain([inserted(text, at, &[byte])])
+        });
+        put.chain((1..=3).map(move |count| deleted(text, at, count)))
+    })
+}
+
 /// Every LF with a CR before it, or only those from one line on.
 pub fn with_crs(rng: &mut Rng, text: &[u8]) -> Vec<u8> {
     let from = if rng.once_in(2) {

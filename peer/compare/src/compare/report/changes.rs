@@ -5,7 +5,9 @@ use peer::table::ROWS_MAX;
 
 use super::{input_of, same_print, same_report, Printed};
 use crate::course::{Compared, Course, Difference};
-use crate::draw::{byte_room, changed, deleted, inserted, limit_pair, short_text, sound, widest};
+use crate::draw::{
+    byte_room, changed, deleted, every_change, inserted, limit_pair, short_text, sound, widest,
+};
 use crate::draw::{Shape, TELLING};
 use crate::place;
 
@@ -22,7 +24,7 @@ pub fn every_byte(course: &mut Course) -> Compared {
         let ticks = course.rng.word(0, 9);
         let line = format!("ticks={ticks}\n").into_bytes();
         let text = short_text(&mut course.rng, 1);
-        every_change(course, &[line, text].concat(), &every)?;
+        same_changed(course, &[line, text].concat(), &every)?;
     }
     Ok(())
 }
@@ -31,12 +33,12 @@ pub fn every_byte(course: &mut Course) -> Compared {
 pub fn telling(course: &mut Course) -> Compared {
     let sample = place::sample("documents_example");
     let sample = sample.map_err(|error| Difference(error.to_string()))?;
-    every_change(course, &sample.input, TELLING)?;
+    same_changed(course, &sample.input, TELLING)?;
     for round in 0..FEW_ROWS {
         let ticks = course.rng.word(0, 99);
         let line = format!("ticks={ticks}\n").into_bytes();
         let text = short_text(&mut course.rng, 2 + round as usize % 2);
-        every_change(course, &[line, text].concat(), TELLING)?;
+        same_changed(course, &[line, text].concat(), TELLING)?;
     }
     Ok(())
 }
@@ -51,7 +53,7 @@ pub fn many_rows(course: &mut Course) -> Compared {
     };
     let full = limit_pair(&mut course.rng, shape).within;
     let few = [b'0', b'9', b'=', b'\n', b'\r', 0];
-    every_change(course, &input_of(2, &full), &few)?;
+    same_changed(course, &input_of(2, &full), &few)?;
     for words in [longest_table(), widest(&mut course.rng)] {
         let input = input_of(99_999, &words);
         for at in 0..input.len() {
@@ -66,19 +68,10 @@ pub fn many_rows(course: &mut Course) -> Compared {
     Ok(())
 }
 
-/// Each byte changed to each of these, each put in at every place, and one to
-/// three bytes taken out at every place.
-fn every_change(course: &mut Course, input: &[u8], bytes: &[u8]) -> Compared {
-    for at in 0..=input.len() {
-        for &byte in bytes {
-            if at < input.len() {
-                same_report(course, &changed(input, at, byte))?;
-            }
-            same_report(course, &inserted(input, at, &[byte]))?;
-        }
-        for count in 1..=3 {
-            same_report(course, &deleted(input, at, count))?;
-        }
+/// Every such change of a text.
+fn same_changed(course: &mut Course, text: &[u8], bytes: &[u8]) -> Compared {
+    for changed in every_change(text, bytes) {
+        same_report(course, &changed)?;
     }
     Ok(())
 }

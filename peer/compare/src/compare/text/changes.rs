@@ -6,7 +6,7 @@ use peer::text::text_of;
 
 use super::same_text;
 use crate::course::{Compared, Course};
-use crate::draw::{any_values, changed, deleted, inserted, short_text, sound, widest, TELLING};
+use crate::draw::{any_values, every_change, short_text, sound, widest, TELLING};
 
 /// Texts of one row, each byte of which takes every value.
 const ONE_ROW: u32 = 6;
@@ -22,7 +22,7 @@ pub fn every_byte(course: &mut Course) -> Compared {
     let every: Vec<u8> = (0..=255).collect();
     for _ in 0..ONE_ROW {
         let text = short_text(&mut course.rng, 1);
-        every_change(course, &text, &every)?;
+        same_changed(course, &text, &every)?;
     }
     Ok(())
 }
@@ -34,7 +34,7 @@ pub fn two_rows(course: &mut Course) -> Compared {
             0 => short_text(&mut course.rng, 2),
             _ => text_of(&any_values(&mut course.rng, 2)),
         };
-        every_change(course, &text, TELLING)?;
+        same_changed(course, &text, TELLING)?;
     }
     Ok(())
 }
@@ -45,24 +45,15 @@ pub fn longest(course: &mut Course) -> Compared {
     let drawn = sound(&mut course.rng, ROWS_MAX, 65_535);
     for words in [longest_table(), widest(&mut course.rng), drawn] {
         let telling = [b'0', b'6', b'9', b'=', b'\n', b'\r', b'd', 0, 255];
-        every_change(course, &text_of(&words), &telling)?;
+        same_changed(course, &text_of(&words), &telling)?;
     }
     Ok(())
 }
 
-/// Each byte changed to each of these, each put in at every place, and one to
-/// three bytes taken out at every place.
-fn every_change(course: &mut Course, text: &[u8], bytes: &[u8]) -> Compared {
-    for at in 0..=text.len() {
-        for &byte in bytes {
-            if at < text.len() {
-                same_text(course, &changed(text, at, byte))?;
-            }
-            same_text(course, &inserted(text, at, &[byte]))?;
-        }
-        for count in 1..=3 {
-            same_text(course, &deleted(text, at, count))?;
-        }
+/// Every such change of a text.
+fn same_changed(course: &mut Course, text: &[u8], bytes: &[u8]) -> Compared {
+    for changed in every_change(text, bytes) {
+        same_text(course, &changed)?;
     }
     Ok(())
 }
