@@ -1,37 +1,37 @@
 -- Whether words are a well-formed state: one law for each way out of the code, and what well-formed words give to the run.
 use mathlib.Core.Bool.{true, false}
 use mathlib.Core.List.{List, [], _∷_, _++_}
-use mathlib.Core.Path.{_≡_, sym, _∙_}
+use mathlib.Core.Path.{_≡_, sym, ap, _∙_}
 use Prim.Native.Nat.{ℕ, _+_, _*_, _≤_, _<_}
 use native.Mathlib.Omega.{arith}
 use lib.Dec.{leb, eqb}
-use lib.ListN.{length, getD, drop}
+use lib.ListN.{length, getD, drop, List·getD-eq-default}
 use borrow.Author.Tests.{le-leb, lt-leb, eq-eqb, ne-eqb, eqb-true}
 use Rattle.law.specs.Sums.{every}
 use Rattle.law.specs.Refusal.{accepted, refused, within}
 use Rattle.law.specs.Table.{faulty, tableOf, checked}
-use Rattle.law.specs.Tick.{noRow, run, fresh, clockEnd}
-use Rattle.law.specs.State.{tasksOf, tableWell, rowWell, stateWell, stateOf, laid, savedWell, runAnswer, runWords, countsOf, countsAnswer, countsRoom, freshAnswer, freshWords}
+use Rattle.law.specs.Tick.{Row, noRow, run, fresh, clockEnd}
+use Rattle.law.specs.State.{tasksOf, tableWell, rowWell, stateWell, stateOf, laid, savedWell, runAnswer, runWords, countsOf, countsAnswer, countsRoom, heldAnswer, rowOf, freshAnswer, freshWords}
 use Rattle.law.proofs.Tests.{both-left, both-right}
-use Rattle.law.proofs.Question.{within-high}
+use Rattle.law.proofs.Question.{within-high, within-is}
 use Rattle.law.proofs.Ticks.{tasks-length, state-facts}
 use Rattle.law.proofs.Laid.{saved-laid}
 use Rattle.rows.specs.Said.{Sized, Held}
-use Rattle.rows.proofs.Words.{rows-are}
+use Rattle.rows.proofs.Words.{words-long, rows-are, row-read}
 use Rattle.tick.proofs.Chain.{time-word, idle-word}
 
 module _ (words : List ℕ) where
   table-rows : length (tasksOf (stateOf words .rows)) ≡ getD words 0 0
   table-rows = tasks-length (stateOf words .rows) ∙ rows-are words
 
-  pub length-off : (length words ≡ 579 → ⊥) → false ≡ savedWell words
+  pub length-off : (length words ≡ 611 → ⊥) → false ≡ savedWell words
   unfolding savedWell
-  length-off h = sym (rw (ne-eqb (length words) 579 h))
+  length-off h = sym (rw (ne-eqb (length words) 611 h))
 
-  module _ (long : length words ≡ 579) where
+  module _ (long : length words ≡ 611) where
     pub rows-off : within 1 32 (getD words 0 0) ≡ false → false ≡ savedWell words
     unfolding savedWell stateWell tableWell
-    rows-off e = sym (rw (eq-eqb (length words) 579 long, table-rows, e))
+    rows-off e = sym (rw (eq-eqb (length words) 611 long, table-rows, e))
 
     module _ (rows : within 1 32 (getD words 0 0) ≡ true) where
       pub sized : Sized words (getD words 0 0)
@@ -39,13 +39,13 @@ module _ (words : List ℕ) where
 
       pub table-off : eqb (faulty (tasksOf (stateOf words .rows))) (getD words 0 0) ≡ false → false ≡ savedWell words
       unfolding savedWell stateWell tableWell
-      table-off e = sym (rw (eq-eqb (length words) 579 long, table-rows, rows, e))
+      table-off e = sym (rw (eq-eqb (length words) 611 long, table-rows, rows, e))
 
       module _ (clean : eqb (faulty (tasksOf (stateOf words .rows))) (getD words 0 0) ≡ true) where
         pub time-off : clockEnd < getD words 1 0 → false ≡ savedWell words
         unfolding savedWell stateWell tableWell
         time-off h =
-            sym (rw (eq-eqb (length words) 579 long, table-rows, rows, clean, lt-leb (stateOf words .time) clockEnd (rw (time-word words) at h)))
+            sym (rw (eq-eqb (length words) 611 long, table-rows, rows, clean, lt-leb (stateOf words .time) clockEnd (rw (time-word words) at h)))
 
         module _ (early : getD words 1 0 ≤ clockEnd) where
           in-time : leb (stateOf words .time) clockEnd ≡ true
@@ -55,7 +55,7 @@ module _ (words : List ℕ) where
           unfolding savedWell stateWell tableWell
           idle-off h =
               sym
-              (rw (eq-eqb (length words) 579 long, table-rows, rows, clean, in-time, lt-leb (stateOf words .idle) (stateOf words .time) (rw (time-word words, idle-word words) at h)))
+              (rw (eq-eqb (length words) 611 long, table-rows, rows, clean, in-time, lt-leb (stateOf words .idle) (stateOf words .time) (rw (time-word words, idle-word words) at h)))
 
           module _ (idle : getD words 2 0 ≤ getD words 1 0) where
             in-idle : leb (stateOf words .idle) (stateOf words .time) ≡ true
@@ -65,21 +65,21 @@ module _ (words : List ℕ) where
             unfolding savedWell stateWell tableWell
             row-off e =
                 sym
-                (rw (eq-eqb (length words) 579 long, table-rows, rows, clean, in-time, in-idle, rw (time-word words) at e))
+                (rw (eq-eqb (length words) 611 long, table-rows, rows, clean, in-time, in-idle, rw (time-word words) at e))
 
             pub all-on : every (rowWell (getD words 1 0)) (stateOf words .rows) ≡ true
-                → every (λ w. eqb w 0) (drop (3 + getD words 0 0 * 18) words) ≡ savedWell words
+                → every (λ w. eqb w 0) (drop (3 + getD words 0 0 * 19) words) ≡ savedWell words
             unfolding savedWell stateWell tableWell
             all-on e =
                 sym
-                (rw (eq-eqb (length words) 579 long, table-rows, rows, clean, in-time, in-idle, rw (time-word words) at e))
+                (rw (eq-eqb (length words) 611 long, table-rows, rows, clean, in-time, in-idle, rw (time-word words) at e))
 
 -- words that pass are the words of a well-formed state
 pub saved-held : (words : List ℕ) → savedWell words ≡ true → Held 0 words
 unfolding savedWell
 saved-held words e =
-    let long = eqb-true (length words) 579 (both-left _ _ e) in
-    let rest = both-right (eqb (length words) 579) _ e in
+    let long = eqb-true (length words) 611 (both-left _ _ e) in
+    let rest = both-right (eqb (length words) 611) _ e in
     let s = state-facts (stateOf words) (both-left _ _ rest) in
     let few : getD words 0 0 ≤ 32 = omega (arith, s .table .rows-high, table-rows words) in
     record {
@@ -122,6 +122,39 @@ module _ (words : List ℕ) (i : ℕ) (room : List ℕ) where
     unfolding countsAnswer countsRoom
     counts-laid h = let e = le-leb 7 (length room) h in (rw (good, e), rw (good, e))
 
+-- the frame question by its cases
+module _ (words : List ℕ) (i : ℕ) where
+  pub held-length : (length words ≡ 611 → ⊥) → heldAnswer words i ≡ refused 14 []
+  unfolding heldAnswer
+  held-length h = rw (ne-eqb (length words) 611 h)
+
+  module _ (long : length words ≡ 611) where
+    pub held-rows : within 1 32 (getD words 0 0) ≡ false → heldAnswer words i ≡ refused 14 []
+    unfolding heldAnswer
+    held-rows e = rw (eq-eqb (length words) 611 long, e)
+
+    module _ (rows : within 1 32 (getD words 0 0) ≡ true) where
+      pub held-told : heldAnswer words i ≡ accepted (getD (stateOf words .rows) i noRow .tally .held ∷ [])
+      unfolding heldAnswer
+      held-told = rw (eq-eqb (length words) 611 long, rows)
+
+      pub held-none : getD words 0 0 ≤ i → heldAnswer words i ≡ accepted (0 ∷ [])
+      held-none h =
+          held-told
+          ∙ ap (λ (z : Row). accepted (z .tally .held ∷ [])) (List·getD-eq-default (stateOf words .rows) noRow (omega (arith, rows-are words)))
+
+      pub held-row : i < getD words 0 0 → heldAnswer words i ≡ accepted (getD words (i * 19 + (3 + 18)) 0 ∷ [])
+      unfolding rowOf
+      held-row h = held-told ∙ ap (λ (z : Row). accepted (z .tally .held ∷ [])) (sym (row-read words i (omega (arith, rows-are words))))
+
+-- of a well-formed state it is what the row's tally says
+pub held-saved : (words : List ℕ) (i : ℕ) → savedWell words ≡ true → heldAnswer words i ≡ accepted (getD (stateOf words .rows) i noRow .tally .held ∷ [])
+held-saved words i e =
+    let h = saved-held words e in
+    let low : 1 ≤ getD words 0 0 = omega (arith, h .sound .table .rows-low, table-rows words) in
+    let high : getD words 0 0 ≤ 32 = omega (arith, h .laid .few, rows-are words) in
+    held-told words i (words-long (h .laid)) (within-is 1 32 (getD words 0 0) low high)
+
 -- a fresh state by its cases
 module _ (table room : List ℕ) where
   pub fresh-unchecked : (n : ℕ) (also : List ℕ) → checked table ≡ refused n also
@@ -130,11 +163,11 @@ module _ (table room : List ℕ) where
   fresh-unchecked n also e = (rw e, rw e)
 
   module _ (vs : List ℕ) (good : checked table ≡ accepted vs) where
-    pub fresh-short : length room < 579 → (freshAnswer table (length room) ≡ refused 13 []) × (freshWords table room ≡ room)
+    pub fresh-short : length room < 611 → (freshAnswer table (length room) ≡ refused 13 []) × (freshWords table room ≡ room)
     unfolding freshAnswer freshWords
-    fresh-short h = let e = lt-leb 579 (length room) h in (rw (good, e), rw (good, e))
+    fresh-short h = let e = lt-leb 611 (length room) h in (rw (good, e), rw (good, e))
 
-    pub fresh-laid : 579 ≤ length room
-        → (freshAnswer table (length room) ≡ accepted (length (tableOf table) ∷ [])) × (freshWords table room ≡ laid (fresh (tableOf table)) ++ drop 579 room)
+    pub fresh-laid : 611 ≤ length room
+        → (freshAnswer table (length room) ≡ accepted (length (tableOf table) ∷ [])) × (freshWords table room ≡ laid (fresh (tableOf table)) ++ drop 611 room)
     unfolding freshAnswer freshWords
-    fresh-laid h = let e = le-leb 579 (length room) h in (rw (good, e), rw (good, e))
+    fresh-laid h = let e = le-leb 611 (length room) h in (rw (good, e), rw (good, e))

@@ -1,5 +1,5 @@
 -- The tests of a row, one law for each way out of the code.
-use mathlib.Core.Bool.{true, false}
+use mathlib.Core.Bool.{Bool, true, false}
 use mathlib.Core.Path.{_≡_, sym, ap, _∙_}
 use Prim.Native.Nat.{ℕ, _+_, _-_, _/_, _^_, _≤_, _<_}
 use native.Mathlib.Decide.{decLt}
@@ -8,9 +8,9 @@ use native.Mathlib.Omega.{arith}
 use lib.Dec.{leb, ltb, eqb}
 use lib.Pow.{pow-pos, shr-shr}
 use borrow.Author.Tests.{lt-ltb, le-ltb, le-leb, lt-leb, eq-eqb, ne-eqb}
-use Rattle.law.specs.Sums.{bit}
+use Rattle.law.specs.Sums.{bit, both}
 use Rattle.law.specs.Refusal.{within}
-use Rattle.law.specs.Tick.{Core, Tally, live}
+use Rattle.law.specs.Tick.{Core, Tally, live, marks}
 use Rattle.law.specs.State.{settledCounts, jobWell, coreWell, tallyWell}
 use Rattle.law.proofs.Sound.{live-yes, live-no}
 
@@ -67,12 +67,18 @@ module _ (c : Core) where
         sym
         (rw (le-leb (y .released) time h, eq-eqb (y .released) (settledCounts y + bit (live c)) e, lt-leb (y .broken) (settledCounts y) b))
 
-    pub tally-on : y .released ≤ time → y .released ≡ settledCounts y + bit (live c) → y .broken ≤ settledCounts y
-        → ltb (y .window) (2 ^ (c .task .k)) ≡ tallyWell time c y
-    unfolding tallyWell
-    tally-on h e b =
-        sym
-        (rw (le-leb (y .released) time h, eq-eqb (y .released) (settledCounts y + bit (live c)) e, le-leb (y .broken) (settledCounts y) b))
+    module _ (h : y .released ≤ time) (e : y .released ≡ settledCounts y + bit (live c)) (b : y .broken ≤ settledCounts y) where
+      counts-on : both (ltb (y .window) (2 ^ (c .task .k))) (eqb (y .held) (marks (c .task .k) (y .window))) ≡ tallyWell time c y
+      unfolding tallyWell
+      counts-on =
+          sym
+          (rw (le-leb (y .released) time h, eq-eqb (y .released) (settledCounts y + bit (live c)) e, le-leb (y .broken) (settledCounts y) b))
+
+      pub window-off : ltb (y .window) (2 ^ (c .task .k)) ≡ false → false ≡ tallyWell time c y
+      window-off w = sym (ap (λ (z : Bool). both z (eqb (y .held) (marks (c .task .k) (y .window)))) w) ∙ counts-on
+
+      pub tally-on : ltb (y .window) (2 ^ (c .task .k)) ≡ true → eqb (y .held) (marks (c .task .k) (y .window)) ≡ tallyWell time c y
+      tally-on w = sym (ap (λ (z : Bool). both z (eqb (y .held) (marks (c .task .k) (y .window)))) w) ∙ counts-on
 
 -- a word has no bit from k up
 pub window-test : (window k : ℕ) → 1 ≤ k → eqb (window / 2 ^ (k - 1) / 2) 0 ≡ ltb window (2 ^ k)

@@ -32,7 +32,7 @@ pub struct Begun {
     pub state: State,
 }
 
-// A row before its first job: wait and place 0, nothing live, counts 0, a window of k met marks.
+// A row before its first job: wait and place 0, nothing live, counts 0, a window of k met marks, so k of them held.
 fn fresh_row(task: Task) -> Row
     requires { ⌜ Ranged (taskSaid task) ⌝ }
     ensures { λ r. ⌜ rowSaid r ≡ freshRow (taskSaid task) ⌝ }
@@ -45,6 +45,7 @@ fn fresh_row(task: Task) -> Row
         om: 0,
         ox: 0,
         broken: 0,
+        held: task.k,
     };
     Row {
         task,
@@ -70,7 +71,7 @@ fn clear(words: &mut [u64])
 
 // The words of a table's fresh state: its number of rows, time 0, idle 0, and a fresh row for each task.
 fn lay_fresh(table: &[u32], words: &mut [u64])
-    requires { ⌜ (WellFormed (tableOf (now table))) × (length (now words) ≡ 579) ⌝ }
+    requires { ⌜ (WellFormed (tableOf (now table))) × (length (now words) ≡ 611) ⌝ }
     ensures { λ _. ⌜ now (words .exit) ≡ laid (freshLaw (tableOf (now (table .entry)))) ⌝ }
 {
     let rows = table.len() / WIDTH;
@@ -101,10 +102,10 @@ pub fn fresh_words(table: &[u32], room: &mut [u64]) -> Started
 
 // The fresh state of a table by value.
 pub fn fresh(table: &[u32]) -> Begun
-    ensures answer { λ r. ⌜ startedShown (r .answer) ≡ freshAnswer (now (table .entry)) 579 ⌝ }
-    ensures state { λ r. ⌜ r .state .words ≡ freshWordsLaw (now (table .entry)) (replicate 579 0) ⌝ }
+    ensures answer { λ r. ⌜ startedShown (r .answer) ≡ freshAnswer (now (table .entry)) 611 ⌝ }
+    ensures state { λ r. ⌜ r .state .words ≡ freshWordsLaw (now (table .entry)) (replicate 611 0) ⌝ }
 {
-    let mut words = [0u64; 579];
+    let mut words = [0u64; 611];
     let answer = fresh_words(table, &mut words);
     Begun {
         answer,

@@ -18,6 +18,7 @@ use rows::row_at;
 use rows::task_of;
 use rows::word;
 use table::row_fault;
+use tally::marks_in;
 use tick::one;
 
 // The window's bits from k up are clear. The shift goes in two steps, since k may be 64.
@@ -60,7 +61,7 @@ fn core_well(r: Row) -> bool
     job_well(r)
 }
 
-// The counts agree and the window fits. No settled count is above the released one, so their sum does not pass 64 bits.
+// The counts agree, the window fits, and its met marks are as many as is said. No settled count is above the released one, so their sum does not pass 64 bits.
 fn tally_well(r: Row, time: u64) -> bool
     requires { ⌜ (time ≤ clockEnd) × (InRange (r .task .m) (r .task .k)) ⌝ }
     ensures { λ b. ⌜ b ≡ tallyWell time (rowSaid r .core) (rowSaid r .tally) ⌝ }
@@ -88,7 +89,11 @@ fn tally_well(r: Row, time: u64) -> bool
     if settled < y.broken {
         return false;
     }
-    window_fits(y.window, r.task.k)
+    if !window_fits(y.window, r.task.k) {
+        return false;
+    }
+    let marks = marks_in(y.window, r.task.k);
+    y.held == marks
 }
 
 // A whole row.

@@ -16,6 +16,7 @@ use Rattle.law.specs.Tick.{State, freshRow, fresh}
 use Rattle.law.specs.State.{tasksOf, stateWell, rowsLaid, laid, savedWell}
 use Rattle.law.specs.Sound.{SoundRow, SoundState}
 use Rattle.law.proofs.Tests.{both-true}
+use Rattle.law.proofs.Window.{marks-full}
 use Rattle.law.proofs.Laid.{rows-length, laid-length, state-laid}
 use Rattle.law.proofs.Ticks.{state-tests, tasks-length}
 
@@ -35,7 +36,7 @@ fresh-row-sound r g =
             work = omega arith;
             job = inl (record { work = refl; left = refl; kind = refl });
           };
-      tally = record { released = omega arith; balance = refl; broken = omega arith; window = ones-lt (r .k) };
+      tally = record { released = omega arith; balance = refl; broken = omega arith; window = ones-lt (r .k); held = sym (marks-full (r .k)) };
     }
 
 pub fresh-sound : (tasks : List Task) → WellFormed tasks → SoundState 0 (fresh tasks)
@@ -54,11 +55,11 @@ unfolding every
 zeros-clear zero = refl
 zeros-clear (suc n) = zeros-clear n
 
-past : (s : State) → drop (3 + length (s .rows) * 18) (laid s) ≡ replicate ((32 - length (s .rows)) * 18) 0
+past : (s : State) → drop (3 + length (s .rows) * 19) (laid s) ≡ replicate ((32 - length (s .rows)) * 19) 0
 unfolding laid
 past s =
-    let e : 3 + length (s .rows) * 18 ≡ suc (suc (suc (length (s .rows) * 18))) = omega arith in
-    rw e (drop-at (rowsLaid (s .rows)) _ (length (s .rows) * 18) (rows-length (s .rows)))
+    let e : 3 + length (s .rows) * 19 ≡ suc (suc (suc (length (s .rows) * 19))) = omega arith in
+    rw e (drop-at (rowsLaid (s .rows)) _ (length (s .rows) * 19) (rows-length (s .rows)))
 
 first-word : (s : State) → getD (laid s) 0 0 ≡ length (s .rows)
 unfolding laid
@@ -68,7 +69,7 @@ pub laid-saved : (s : State) → SoundState 0 s → savedWell (laid s) ≡ true
 unfolding savedWell
 laid-saved s f =
     let few : length (s .rows) ≤ 32 = omega (arith, f .table .rows-high, tasks-length (s .rows)) in
-    both-true _ _ (eq-eqb (length (laid s)) 579 (laid-length s few))
+    both-true _ _ (eq-eqb (length (laid s)) 611 (laid-length s few))
     (both-true _ _ (ap stateWell (state-laid s) ∙ state-tests s f)
-    (ap (λ (z : ℕ). every (λ w. eqb w 0) (drop (3 + z * 18) (laid s))) (first-word s) ∙ ap (every (λ w. eqb w 0)) (past s)
-    ∙ zeros-clear ((32 - length (s .rows)) * 18)))
+    (ap (λ (z : ℕ). every (λ w. eqb w 0) (drop (3 + z * 19) (laid s))) (first-word s) ∙ ap (every (λ w. eqb w 0)) (past s)
+    ∙ zeros-clear ((32 - length (s .rows)) * 19)))

@@ -86,11 +86,13 @@ unfolding tallyWell
 tally-facts time c y e =
     let b = both-right (leb (y .released) time) _ e in
     let w = both-right (eqb (y .released) (settledCounts y + bit (live c))) _ b in
+    let h = both-right (leb (y .broken) (settledCounts y)) _ w in
     record {
       released = omega (arith, leb-true (y .released) time (both-left _ _ e));
       balance = eqb-true (y .released) (settledCounts y + bit (live c)) (both-left _ _ b);
       broken = leb-true (y .broken) (settledCounts y) (both-left _ _ w);
-      window = ltb-true (y .window) (2 ^ (c .task .k)) (both-right (leb (y .broken) (settledCounts y)) _ w);
+      window = ltb-true (y .window) (2 ^ (c .task .k)) (both-left _ _ h);
+      held = eqb-true (y .held) (marks (c .task .k) (y .window)) (both-right (ltb (y .window) (2 ^ (c .task .k))) _ h);
     }
 
 tally-tests : (time : ℕ) (c : Core) (y : Tally) → SoundTally 0 time c y → tallyWell time c y ≡ true
@@ -98,7 +100,8 @@ unfolding tallyWell
 tally-tests time c y s =
     both-true _ _ (le-leb (y .released) time (omega (arith, s .released)))
     (both-true _ _ (eq-eqb (y .released) (settledCounts y + bit (live c)) (s .balance))
-    (both-true _ _ (le-leb (y .broken) (settledCounts y) (s .broken)) (lt-ltb (y .window) (2 ^ (c .task .k)) (s .window))))
+    (both-true _ _ (le-leb (y .broken) (settledCounts y) (s .broken))
+    (both-true _ _ (lt-ltb (y .window) (2 ^ (c .task .k)) (s .window)) (eq-eqb (y .held) (marks (c .task .k) (y .window)) (s .held)))))
 
 pub row-facts : (time : ℕ) (r : Row) → Ranged (r .core .task) → rowWell time r ≡ true → SoundRow 0 time r
 unfolding rowWell
@@ -164,6 +167,7 @@ module _ (time work : ℕ) (r : Row) (s : SoundRow 0 time r) (low : 1 ≤ work) 
               balance = rw (lt-ltb 0 work low) (omega (arith, y .balance, ap bit (live-no c (rest .work))));
               broken = y .broken;
               window = y .window;
+              held = y .held;
             };
       })
 
@@ -188,6 +192,7 @@ module _ (time work : ℕ) (r : Row) (s : SoundRow 0 time r) (low : 1 ≤ work) 
               balance = omega (arith, y .balance);
               broken = y .broken;
               window = y .window;
+              held = y .held;
             };
       })
 
@@ -246,6 +251,7 @@ module _ (time : ℕ) (chosen : Bool) (r : Row) (s : SoundRow 1 time r) where
               balance = rw (le-ltb 0 (workAfter chosen c) (omega (arith, rest .work))) (omega (arith, y .balance, ap bit (live-no c (rest .work))));
               broken = y .broken;
               window = y .window;
+              held = y .held;
             };
       })
 
@@ -290,6 +296,7 @@ module _ (time : ℕ) (chosen : Bool) (r : Row) (s : SoundRow 1 time r) where
                 balance = omega (arith, y .balance, once, ap bit (live-yes c (run .work)));
                 broken = omega (arith, y .broken, once, bit-most (ltb (marks k (shifted k (r .tally .window) mark)) m));
                 window = shifted-low k (r .tally .window) mark;
+                held = refl;
               };
         }
 
@@ -322,6 +329,7 @@ module _ (time : ℕ) (chosen : Bool) (r : Row) (s : SoundRow 1 time r) where
               balance = rw (lt-ltb 0 (workAfter chosen c) (omega arith)) (omega (arith, y .balance, ap bit (live-yes c (run .work))));
               broken = y .broken;
               window = y .window;
+              held = y .held;
             };
       })
 

@@ -2,7 +2,7 @@
 use mathlib.Core.Bool.{Bool}
 use mathlib.Core.Path.{_≡_, refl, sym, ap, _∙_}
 use Prim.Native.Nat.{ℕ, zero, suc, _+_, _-_, _*_, _/_, _%_, _^_, _≤_, _<_}
-use native.Mathlib.Nat.{mul-comm, mod-lt, mod-eq-of-lt, mod-add-mod, mul-div-cancel, mul-mod-left, zero-add, div-one}
+use native.Mathlib.Nat.{mul-comm, mod-lt, mod-eq-of-lt, mod-add-mod, mul-div-cancel, mul-mod-left, zero-add, div-one, pow-suc}
 use native.Mathlib.Numerals.{one-add, add-one}
 use native.Mathlib.Omega.{arith}
 use lib.Arith.{mod-mul, lt-one}
@@ -112,6 +112,43 @@ shift-marks k window mark (suc q) h l =
       shift-marks k window mark q (omega arith) l,
       ap (λ (z : ℕ). bit (eqb z 1)) (shift-older k window mark q h l),
     )
+
+-- the oldest mark, which is cut at a shift, is bit k - 1 of the word: with it and without it
+pub marks-oldest : (k window : ℕ) → 0 < k → marks (k - 1) window + bitAnd (window / 2 ^ (k - 1)) 1 ≡ marks k window
+marks-oldest k window h = let e : suc (k - 1) ≡ k = omega arith in marks-next (k - 1) window ∙ ap (λ (z : ℕ). marks z window) e
+
+-- the number of met marks, amended: the mark that comes in is put to it, the mark that is cut is taken off
+pub marks-amended : (k window mark : ℕ) → 0 < k → mark < 2
+    → marks k window + mark - bitAnd (window / 2 ^ (k - 1)) 1 ≡ marks k (shifted k window mark)
+marks-amended k window mark h l =
+    let e : suc (k - 1) ≡ k = omega arith in
+    omega (
+      arith,
+      marks-oldest k window h,
+      shift-marks k window mark (k - 1) (omega arith) l,
+      ap (λ (z : ℕ). marks z (shifted k window mark)) e,
+    )
+
+-- a window of k met marks: each bit below k is set, so it holds k
+pub full-bit : (k b : ℕ) → b < k → (2 ^ k - 1) / 2 ^ b % 2 ≡ 1
+full-bit k b h =
+    let e : k ≡ suc (k - suc b) + b = omega arith in
+    ap (λ (z : ℕ). (2 ^ z - 1) / 2 ^ b % 2) e ∙ ap (λ (z : ℕ). z / 2 ^ b % 2) (ones-split (suc (k - suc b)) b)
+    ∙ ap (λ (z : ℕ). z % 2) (high (2 ^ suc (k - suc b) - 1) b (ones-lt b))
+    ∙ omega (arith, pow-suc 2 (k - suc b), pow-pos (k - suc b))
+
+full-low : (k q : ℕ) → q ≤ k → marks q (2 ^ k - 1) ≡ q
+full-low k zero h = marks-none (2 ^ k - 1)
+full-low k (suc q) h =
+    omega (
+      arith,
+      marks-suc q (2 ^ k - 1),
+      full-low k q (omega arith),
+      ap (λ (z : ℕ). bit (eqb z 1)) (full-bit k q (omega arith)),
+    )
+
+pub marks-full : (k : ℕ) → marks k (2 ^ k - 1) ≡ k
+marks-full k = full-low k k (omega arith)
 
 -- the word of k set bits, cut out of the whole word
 pub cut-is : (k : ℕ) → k ≤ 64 → (2 ^ 64 - 1) / 2 ^ (64 - k) ≡ 2 ^ k - 1

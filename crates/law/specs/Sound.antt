@@ -6,7 +6,7 @@ use Prim.Native.Nat.{ℕ, _+_, _^_, _≤_, _<_}
 use lib.ListN.{length, getD}
 use Rattle.law.specs.Sums.{bit}
 use Rattle.law.specs.Table.{Ranged, WellFormed}
-use Rattle.law.specs.Tick.{Core, Tally, Row, State, noRow, live, clockEnd}
+use Rattle.law.specs.Tick.{Core, Tally, Row, State, noRow, live, marks, clockEnd}
 use Rattle.law.specs.State.{settledCounts, tasksOf}
 
 -- "a row without one has deadline and kind 0"
@@ -35,6 +35,7 @@ pub record SoundTally (phase time : ℕ) (c : Core) (y : Tally) : Type 0 where
   pub balance : y .released ≡ settledCounts y + bit (live c)
   pub broken : y .broken ≤ settledCounts y
   pub window : y .window < 2 ^ (c .task .k)
+  pub held : y .held ≡ marks (c .task .k) (y .window)
 
 pub record SoundRow (phase time : ℕ) (r : Row) : Type 0 where
   pub core : SoundCore phase (r .core)

@@ -7,7 +7,7 @@ use lib.ListN.{length, getD, set, drop, replicate}
 use Rattle.law.specs.Sums.{bit, both, pick, every, build}
 use Rattle.law.specs.Refusal.{Answer, accepted, refused, orRefused, after, lent, within}
 use Rattle.law.specs.Table.{Task, taskOf, tableOf, faulty, checked}
-use Rattle.law.specs.Tick.{Core, Tally, Row, State, noRow, live, spare, run, fresh, clockEnd}
+use Rattle.law.specs.Tick.{Core, Tally, Row, State, noRow, live, marks, spare, run, fresh, clockEnd}
 
 -- "the four settled counts"
 abbrev pub settledCounts : Tally → ℕ
@@ -23,12 +23,14 @@ unfoldable pub coreWell : Core → Bool
 coreWell c = both (ltb (c .wait) (c .task .t)) (both (ltb (c .place) (c .task .k)) (both (leb (c .work) (c .task .c)) (jobWell c)))
 
 -- "the released count is at most the time and equals the four settled counts plus one if a job is live, and the broken count is at most
--- the sum of those four"; "window bits from k up are clear"
+-- the sum of those four"; "window bits from k up are clear". Document 02, 2/14: "a caller's state in which it isn't true is not well formed": the
+-- number of met marks is that of the window
 unfoldable pub tallyWell : ℕ → Core → Tally → Bool
 tallyWell time c y =
     both (leb (y .released) time)
     (both (eqb (y .released) (settledCounts y + bit (live c)))
-    (both (leb (y .broken) (settledCounts y)) (ltb (y .window) (2 ^ (c .task .k)))))
+    (both (leb (y .broken) (settledCounts y))
+    (both (ltb (y .window) (2 ^ (c .task .k))) (eqb (y .held) (marks (c .task .k) (y .window))))))
 
 unfoldable pub rowWell : ℕ → Row → Bool
 rowWell time r = both (tallyWell time (r .core) (r .tally)) (coreWell (r .core))
@@ -50,13 +52,13 @@ stateWell s =
 
 -- A saved state is 64-bit words: the number of rows, the time, the idle count, then for each of 32 rows its words in this order
 abbrev pub rowWords : ℕ
-rowWords = 18
+rowWords = 19
 
 abbrev pub headWords : ℕ
 headWords = 3
 
 abbrev pub stateWords : ℕ
-stateWords = 579
+stateWords = 611
 
 unfoldable pub rowOf : (ℕ → ℕ) → Row
 rowOf word =
@@ -79,6 +81,7 @@ rowOf word =
             om = word 15;
             ox = word 16;
             broken = word 17;
+            held = word 18;
           };
     }
 
@@ -115,6 +118,7 @@ wordsOf r =
     ∷ r .tally .om
     ∷ r .tally .ox
     ∷ r .tally .broken
+    ∷ r .tally .held
     ∷ []
 
 unfoldable pub rowsLaid : List Row → List ℕ
@@ -175,6 +179,13 @@ countsAnswer words room =
 unfoldable pub countsRoom : List ℕ → ℕ → List ℕ → List ℕ
 countsRoom words i room =
     lent (countsAnswer words (length room)) (countsOf (getD (stateOf words .rows) i noRow) ++ drop countWords room) room
+
+-- Document 02, 2/14: "The screen asks for it in every frame". The number of met marks of row i as it is stored, and 0 where there is no row i. A frame
+-- has no time to go through the rows, so 14 covers here what is seen without: the number of words, and the number of rows
+unfoldable pub heldAnswer : List ℕ → ℕ → Answer
+heldAnswer words i =
+    orRefused (both (eqb (length words) stateWords) (within 1 32 (getD words 0 0))) (refused 14 [])
+    (accepted (getD (stateOf words .rows) i noRow .tally .held ∷ []))
 
 -- the fresh state of a table of words, laid into a lent room: refusals of the table, then 13
 unfoldable pub freshAnswer : List ℕ → ℕ → Answer

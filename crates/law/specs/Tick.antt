@@ -16,7 +16,8 @@ pub record Core : Type 0 where
   pub left : ℕ
   pub kind : ℕ
 
--- "a window, and counts": "released jobs, mandatory met and missed, optional met and missed, and broken windows"
+-- "a window, and counts": "released jobs, mandatory met and missed, optional met and missed, and broken windows"; and the number of met marks that
+-- the window holds (document 02, 2/14: "Store it in each row's tally")
 pub record Tally : Type 0 where
   pub window : ℕ
   pub released : ℕ
@@ -25,6 +26,7 @@ pub record Tally : Type 0 where
   pub om : ℕ
   pub ox : ℕ
   pub broken : ℕ
+  pub held : ℕ
 
 pub record Row : Type 0 where
   pub core : Core
@@ -36,12 +38,13 @@ pub record State : Type 0 where
   pub idle : ℕ
   pub rows : List Row
 
--- "Fresh: time 0, idle 0, wait 0, place 0, nothing live, counts 0, window of k met marks standing for jobs before the first"
+-- "Fresh: time 0, idle 0, wait 0, place 0, nothing live, counts 0, window of k met marks standing for jobs before the first"; so it
+-- holds k
 abbrev pub freshCore : Task → Core
 freshCore r = record { task = r; wait = 0; place = 0; work = 0; left = 0; kind = 0 }
 
 abbrev pub freshTally : Task → Tally
-freshTally r = record { window = 2 ^ (r .k) - 1; released = 0; mm = 0; mx = 0; om = 0; ox = 0; broken = 0 }
+freshTally r = record { window = 2 ^ (r .k) - 1; released = 0; mm = 0; mx = 0; om = 0; ox = 0; broken = 0; held = r .k }
 
 abbrev pub freshRow : Task → Row
 freshRow r = record { core = freshCore r; tally = freshTally r }
@@ -54,7 +57,7 @@ abbrev pub noCore : Core
 noCore = record { task = noTask; wait = 0; place = 0; work = 0; left = 0; kind = 0 }
 
 abbrev pub noRow : Row
-noRow = record { core = noCore; tally = record { window = 0; released = 0; mm = 0; mx = 0; om = 0; ox = 0; broken = 0 } }
+noRow = record { core = noCore; tally = record { window = 0; released = 0; mm = 0; mx = 0; om = 0; ox = 0; broken = 0; held = 0 } }
 
 abbrev pub coreAt : List Row → ℕ → Core
 coreAt rows i = getD rows i noRow .core
@@ -147,7 +150,8 @@ stillHold m k window n = leb m (marks (k - n) window)
 unfoldable pub spare : ℕ → ℕ → ℕ → ℕ
 spare m k window = largest (stillHold m k window) k
 
--- "mandatory met and missed, optional met and missed, and broken windows (settlings after which the window held fewer than m met marks)"
+-- "mandatory met and missed, optional met and missed, and broken windows (settlings after which the window held fewer than m met marks)".
+-- The number of met marks is that of the shifted window (document 02, 2/14: "Each tick, run and fresh state keeps it true")
 unfoldable pub settled : ℕ → ℕ → ℕ → ℕ → Tally → Tally
 settled m k kind mark y =
     record {
@@ -158,6 +162,7 @@ settled m k kind mark y =
       om = y .om + bit (both (eqb kind 0) (eqb mark 1));
       ox = y .ox + bit (both (eqb kind 0) (eqb mark 0));
       broken = y .broken + bit (ltb (marks k (shifted k (y .window) mark)) m);
+      held = marks k (shifted k (y .window) mark);
     }
 
 -- the tally amended by what became of the live job
@@ -168,7 +173,16 @@ amended missed r kind y = settled (r .m) (r .k) kind 0 y
 
 abbrev pub countedRelease : Bool → Tally → Tally
 countedRelease now y =
-    record { window = y .window; released = y .released + bit now; mm = y .mm; mx = y .mx; om = y .om; ox = y .ox; broken = y .broken }
+    record {
+      window = y .window;
+      released = y .released + bit now;
+      mm = y .mm;
+      mx = y .mx;
+      om = y .om;
+      ox = y .ox;
+      broken = y .broken;
+      held = y .held;
+    }
 
 -- a whole row in steps 1 and 3 to 4: the core, which reads no tally, and then the tally
 abbrev pub releaseRow : ℕ → Row → Row

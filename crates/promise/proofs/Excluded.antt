@@ -1,5 +1,6 @@
 -- Programs that the definitions shut out, where no edit of the code could show it: P9 is never idle, however long it runs; and a run that works
 -- through the first tick and only moves the clock after it is not the law's run.
+use mathlib.Core.Bool.{true}
 use mathlib.Core.List.{[], _∷_}
 use mathlib.Core.Path.{_≡_, refl, ap, _∙_}
 use Prim.Native.Nat.{ℕ, zero, suc, _+_}
@@ -9,7 +10,7 @@ use lib.ListN.{getD}
 use Rattle.law.specs.Sums.{ceil, firstFrom, mapFrom, among}
 use Rattle.law.specs.Pattern.{mandatory}
 use Rattle.law.specs.Table.{Task, kindOf}
-use Rattle.law.specs.Tick.{Tally, State, noRow, freshCore, freshTally, fresh, nextPlace, release, choose, outcome, advance, shifted, marks, settled, releaseAll, advanceAll, finish, begin, tick, run}
+use Rattle.law.specs.Tick.{Tally, State, noRow, freshCore, freshTally, fresh, nextPlace, release, choose, outcome, advance, shifted, marks, settled, countedRelease, releaseAll, advanceAll, finish, begin, tick, run}
 use Rattle.law.specs.Promise.{stateAfter}
 
 -- "P9 one row 1,1,1,1,1"
@@ -22,7 +23,7 @@ standing time idle y = record { time = time; idle = idle; rows = record { core =
 
 -- a tick of it takes the job from release to its end
 stands : (time idle : ℕ) (y : Tally)
-    → tick (standing time idle y) ≡ standing (time + 1) (idle + 0) (settled 1 1 1 1 (record { window = y .window; released = y .released + 1; mm = y .mm; mx = y .mx; om = y .om; ox = y .ox; broken = y .broken }))
+    → tick (standing time idle y) ≡ standing (time + 1) (idle + 0) (settled 1 1 1 1 (countedRelease true y))
 unfolding tick begin finish releaseAll advanceAll mapFrom release nextPlace choose firstFrom outcome advance kindOf mandatory ceil
 stands time idle y = refl
 
@@ -32,7 +33,7 @@ unfolding run fresh
 still zero = (freshTally p9, refl)
 still (suc n) =
     let s = still n in
-    (_, ap tick (s .1) ∙ stands n 0 (s .0) ∙ λ i. standing (add-one n i) 0 (settled 1 1 1 1 (record { window = s .0 .window; released = s .0 .released + 1; mm = s .0 .mm; mx = s .0 .mx; om = s .0 .om; ox = s .0 .ox; broken = s .0 .broken })))
+    (_, ap tick (s .1) ∙ stands n 0 (s .0) ∙ λ i. standing (add-one n i) 0 (settled 1 1 1 1 (countedRelease true (s .0))))
 
 pub p9-never-idle : (n : ℕ) → stateAfter (p9 ∷ []) n .idle ≡ 0
 unfolding stateAfter

@@ -5,4 +5,5 @@ pub mod Excluded
 pub mod Examples
 pub mod TextKept
 pub mod MissesLeft
+pub mod MarksKept
 pub mod Once

@@ -27,6 +27,8 @@ use Rattle.text.specs.Written as write
 use Rattle.text.specs.declared.write.Written.{Written}
 use Rattle.text.specs.declared.write.Written.the-variants.{Length as WrittenLength, Refused as WrittenRefused}
 use Rattle.dispatch.specs.Shown as dispatch
+use Rattle.dispatch.specs.declared.held.Marks.{Marks}
+use Rattle.dispatch.specs.declared.held.Marks.the-variants.{Held, Refused as MarksRefused}
 use Rattle.dispatch.specs.declared.run.Ran.{Ran}
 use Rattle.dispatch.specs.declared.run.Ran.the-variants.{Done, Refused as RanRefused}
 use Rattle.dispatch.specs.declared.start.Started.{Started}
@@ -115,6 +117,14 @@ started-told (StartedRefused r) = ap StartedRefused (refusal-told r)
 
 pub started-once : {x y : Started} → dispatch.startedShown x ≡ dispatch.startedShown y → x ≡ y
 started-once = once dispatch.startedShown (back StartedRows StartedRefused) started-told
+
+marks-told : (x : Marks) → back Held MarksRefused (dispatch.marksShown x) ≡ x
+unfolding back
+marks-told (Held n) = refl
+marks-told (MarksRefused r) = ap MarksRefused (refusal-told r)
+
+pub marks-once : {x y : Marks} → dispatch.marksShown x ≡ dispatch.marksShown y → x ≡ y
+marks-once = once dispatch.marksShown (back Held MarksRefused) marks-told
 
 printed-told : (x : Printed) → back PrintedLength PrintedRefused (report.shown x) ≡ x
 unfolding back

@@ -2,3 +2,4 @@ pub mod Promised
 pub mod Examples
 pub mod TextKept
 pub mod MissesLeft
+pub mod MarksKept

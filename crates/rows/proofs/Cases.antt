@@ -36,6 +36,7 @@ waits-on work r h =
             om = r .tally .om;
             ox = r .tally .ox;
             broken = r .tally .broken;
+            held = r .tally .held;
           };
     })
 

@@ -45,7 +45,7 @@ closedRow mark r =
 
 -- words of the right number, with their number of rows, at most 32
 pub record Sized (words : List ℕ) (rows : ℕ) : Type 0 where
-  pub long : length words ≡ 579
+  pub long : length words ≡ 611
   pub total : rows ≡ length (stateOf words .rows)
   pub few : rows ≤ 32
 

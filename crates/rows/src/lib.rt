@@ -1,4 +1,4 @@
-// Where a row stands among the words of a state: the number of rows, the time and the idle count come first, then eighteen words a row.
+// Where a row stands among the words of a state: the number of rows, the time and the idle count come first, then nineteen words a row.
 ghost use mathlib.Core.Path.{_≡_};
 ghost use Prim.Native.Nat.{_+_, _*_, _<_};
 ghost use lib.ListN.{length, getD, set};
@@ -15,13 +15,13 @@ use tally::Tally;
 // The words before the rows, of a row, and of a state.
 pub const HEAD: usize = 3;
 
-pub const STRIDE: usize = 18;
+pub const STRIDE: usize = 19;
 
-pub const STATE_WORDS: usize = 579;
+pub const STATE_WORDS: usize = 611;
 
 // A state by value: the same words that a firmware saves.
 pub struct State {
-    pub words: [u64; 579],
+    pub words: [u64; 611],
 }
 
 // One row: its task, the core (wait, place, live job) and the tally.
@@ -37,14 +37,14 @@ pub struct Row {
 
 // Word j of row i.
 pub fn word(words: &[u64], i: usize, j: usize) -> u64
-    requires { ⌜ (length (now words) ≡ 579) × (i < 32) × (j < 18) ⌝ }
-    ensures { λ r. ⌜ r ≡ getD (now (words .entry)) (i * 18 + (3 + j)) 0 ⌝ }
+    requires { ⌜ (length (now words) ≡ 611) × (i < 32) × (j < 19) ⌝ }
+    ensures { λ r. ⌜ r ≡ getD (now (words .entry)) (i * 19 + (3 + j)) 0 ⌝ }
 {
     words[i * STRIDE + (HEAD + j)]
 }
 
 pub fn task_of(words: &[u64], i: usize) -> Task
-    requires { ⌜ (length (now words) ≡ 579) × (i < 32) ⌝ }
+    requires { ⌜ (length (now words) ≡ 611) × (i < 32) ⌝ }
     ensures { λ r. ⌜ taskSaid r ≡ rowAt (now (words .entry)) i .core .task ⌝ }
 {
     Task {
@@ -58,7 +58,7 @@ pub fn task_of(words: &[u64], i: usize) -> Task
 }
 
 fn tally_of(words: &[u64], i: usize) -> Tally
-    requires { ⌜ (length (now words) ≡ 579) × (i < 32) ⌝ }
+    requires { ⌜ (length (now words) ≡ 611) × (i < 32) ⌝ }
     ensures { λ r. ⌜ tallySaid r ≡ rowAt (now (words .entry)) i .tally ⌝ }
 {
     Tally {
@@ -69,12 +69,13 @@ fn tally_of(words: &[u64], i: usize) -> Tally
         om: word(words, i, 15),
         ox: word(words, i, 16),
         broken: word(words, i, 17),
+        held: word(words, i, 18),
     }
 }
 
 // Row i of a state's words.
 pub fn row_at(words: &[u64], i: usize) -> Row
-    requires { ⌜ (length (now words) ≡ 579) × (i < 32) ⌝ }
+    requires { ⌜ (length (now words) ≡ 611) × (i < 32) ⌝ }
     ensures { λ r. ⌜ rowSaid r ≡ rowAt (now (words .entry)) i ⌝ }
 {
     Row {
@@ -90,8 +91,8 @@ pub fn row_at(words: &[u64], i: usize) -> Row
 
 // Another row i among a state's words.
 pub fn put_row(words: &mut [u64], i: usize, r: Row)
-    requires { ⌜ (length (now words) ≡ 579) × (i < 32) ⌝ }
-    ensures { λ _. ⌜ now (words .exit) ≡ setsFrom (now (words .entry)) (i * 18) 3 (wordsOf (rowSaid r)) ⌝ }
+    requires { ⌜ (length (now words) ≡ 611) × (i < 32) ⌝ }
+    ensures { λ _. ⌜ now (words .exit) ≡ setsFrom (now (words .entry)) (i * 19) 3 (wordsOf (rowSaid r)) ⌝ }
 {
     let at = i * STRIDE;
     words[at + 3] = r.task.id;
@@ -112,20 +113,21 @@ pub fn put_row(words: &mut [u64], i: usize, r: Row)
     words[at + 18] = r.tally.om;
     words[at + 19] = r.tally.ox;
     words[at + 20] = r.tally.broken;
+    words[at + 21] = r.tally.held;
 }
 
 // Another wait, word 6 of row i.
 pub fn put_wait(words: &mut [u64], i: usize, wait: u64)
-    requires { ⌜ (length (now words) ≡ 579) × (i < 32) ⌝ }
-    ensures { λ _. ⌜ now (words .exit) ≡ set (now (words .entry)) (i * 18 + 9) wait ⌝ }
+    requires { ⌜ (length (now words) ≡ 611) × (i < 32) ⌝ }
+    ensures { λ _. ⌜ now (words .exit) ≡ set (now (words .entry)) (i * 19 + 9) wait ⌝ }
 {
     words[i * STRIDE + 9] = wait;
 }
 
 // Another wait, work and time left of row i: the words that a tick which settles nothing there changes.
 pub fn put_going(words: &mut [u64], i: usize, wait: u64, work: u64, left: u64)
-    requires { ⌜ (length (now words) ≡ 579) × (i < 32) ⌝ }
-    ensures { λ _. ⌜ now (words .exit) ≡ set (set (set (now (words .entry)) (i * 18 + 9) wait) (i * 18 + 11) work) (i * 18 + 12) left ⌝ }
+    requires { ⌜ (length (now words) ≡ 611) × (i < 32) ⌝ }
+    ensures { λ _. ⌜ now (words .exit) ≡ set (set (set (now (words .entry)) (i * 19 + 9) wait) (i * 19 + 11) work) (i * 19 + 12) left ⌝ }
 {
     let at = i * STRIDE;
     words[at + 9] = wait;

@@ -6,12 +6,13 @@ ghost use Rattle.law.specs.Table.{checked};
 ghost use Rattle.law.specs.Verdict.{verdict as verdictLaw, verdictRoom};
 ghost use Rattle.law.specs.Reading.{readAnswer, readRoom, writeAnswer, writeRoom};
 ghost use Rattle.law.specs.Report.{reportAnswer, reportRoom};
-ghost use Rattle.law.specs.State.{freshAnswer, freshWords, runAnswer, runWords, savedAnswer, countsAnswer, countsRoom};
+ghost use Rattle.law.specs.State.{freshAnswer, freshWords, runAnswer, runWords, savedAnswer, countsAnswer, countsRoom, heldAnswer};
 ghost use Rattle.refusal.specs.Shown.{shown};
 ghost use Rattle.dispatch.specs.Shown.{ranShown};
 ghost use Rattle.stand_c.specs.Numbered.{numbered};
 use book::Job;
 use book::Word;
+use dispatch::held::Marks;
 use dispatch::run::Ran;
 use dispatch::start::Started;
 use refusal::Refusal;
@@ -141,7 +142,7 @@ fn ran(r: Ran) -> Answer
     }
 }
 
-// The fresh state of a table, laid into the first 579 words of a room: its number of rows.
+// The fresh state of a table, laid into the first 611 words of a room: its number of rows.
 #[no_mangle]
 pub extern "C" fn gp_fresh(table: &[u32], room: &mut [u64]) -> Answer
     ensures answer { λ a. ⌜ a ≡ numbered (freshAnswer (now (table .entry)) (length (now (room .entry)))) ⌝ }
@@ -156,7 +157,7 @@ pub extern "C" fn gp_fresh(table: &[u32], room: &mut [u64]) -> Answer
     }
 }
 
-// Whether 579 words are a well-formed state.
+// Whether 611 words are a well-formed state.
 #[no_mangle]
 pub extern "C" fn gp_well(state: &[u64]) -> Answer
     ensures { λ a. ⌜ a ≡ numbered (savedAnswer (now (state .entry))) ⌝ }
@@ -196,6 +197,21 @@ pub extern "C" fn gp_counts(state: &[u64], row: u32, room: &mut [u64]) -> Answer
     ensures room { λ a. ⌜ now (room .exit) ≡ countsRoom (now (state .entry)) row (now (room .entry)) ⌝ }
 {
     ran(dispatch::counts::counts_words(state, row, room))
+}
+
+// The frame question: the number of met marks of one row of a saved state, as it is stored; 0 where there is no such row. Of the state it looks at the
+// number of words and of rows alone.
+#[no_mangle]
+pub extern "C" fn gp_held(state: &[u64], row: u32) -> Answer
+    ensures { λ a. ⌜ a ≡ numbered (heldAnswer (now (state .entry)) row) ⌝ }
+{
+    match dispatch::held::held_words(state, row) {
+        Marks::Held(marks) => Answer {
+            refusal: 0,
+            value: marks,
+        },
+        Marks::Refused(r) => refused(r),
+    }
 }
 
 // The printing program as a function: the length of what it prints for an input, and the bytes in the first bytes of the room. A room of 5,120

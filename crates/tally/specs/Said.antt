@@ -1,4 +1,5 @@
 -- How a struct `Tally` is read as the law's, and what the settling routine asks of one.
+use mathlib.Core.Path.{_≡_}
 use Prim.Native.Nat.{ℕ, _+_, _<_, _^_}
 use Rattle.law.specs.Tick as law
 use Rattle.tally.specs.declared.Tally.{Tally}
@@ -13,11 +14,13 @@ tallySaid y =
       om = y .om;
       ox = y .ox;
       broken = y .broken;
+      held = y .held;
     }
 
--- a count more still fits, and the window has k marks
+-- a count more still fits, the window has k marks, and the number of met marks is true
 pub record Countable (k : ℕ) (y : law.Tally) : Type 0 where
   pub window : y .window < 2 ^ k
+  pub held : y .held ≡ law.marks k (y .window)
   pub mm : y .mm + 1 < 2 ^ 64
   pub mx : y .mx + 1 < 2 ^ 64
   pub om : y .om + 1 < 2 ^ 64

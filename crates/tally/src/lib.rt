@@ -1,4 +1,4 @@
-// One row's tally: its window and its counts, and the settling routine that amends them.
+// One row's tally: its window with the number of its met marks, its counts, and the settling routine that amends them.
 ghost use mathlib.Core.Path.{_≡_};
 ghost use Prim.Native.Nat.{_-_, _<_, _≤_, _^_};
 ghost use lib.Dec.{eqb, ltb};
@@ -7,7 +7,8 @@ ghost use Rattle.law.specs.Pattern.{InRange};
 ghost use Rattle.law.specs.Tick.{shifted, marks, spare as spareLaw, settled};
 ghost use Rattle.tally.specs.Said.{tallySaid, Countable};
 
-// The window, newest mark in bit 0, and the counts: released, mandatory met and missed, optional met and missed, broken windows.
+// The window, newest mark in bit 0; the counts: released, mandatory met and missed, optional met and missed, broken windows; and the number of
+// met marks that the window holds.
 pub struct Tally {
     pub window: u64,
     pub released: u64,
@@ -16,6 +17,7 @@ pub struct Tally {
     pub om: u64,
     pub ox: u64,
     pub broken: u64,
+    pub held: u64,
 }
 
 // The window of k marks after one more: the newest is bit 0, the mark that reaches bit k is cut.
@@ -27,8 +29,8 @@ fn shift(window: u64, mark: u64, k: u64) -> u64
     (window << 1 | mark) & cut
 }
 
-// The met marks of a window.
-fn marks_in(window: u64, k: u64) -> u64
+// The met marks of a window, counted: for a tally that comes from outside. Settling amends the number that is kept.
+pub fn marks_in(window: u64, k: u64) -> u64
     requires { ⌜ window < 2 ^ k ⌝ }
     ensures { λ r. ⌜ r ≡ marks k window ⌝ }
 {
@@ -46,12 +48,19 @@ fn one_if(kind: u64, of: u64, mark: u64, is: u64) -> u64
     }
 }
 
-// 1 where a window holds fewer than m met marks, else 0.
-fn one_if_short(window: u64, m: u64, k: u64) -> u64
-    requires { ⌜ window < 2 ^ k ⌝ }
-    ensures { λ r. ⌜ (r ≡ bit (ltb (marks k window) m)) × (r ≤ 1) ⌝ }
+// The met marks of a window after one more mark: the mark that comes in is put to them, and the mark that is cut, bit k - 1, is taken off.
+fn amend(held: u64, window: u64, mark: u64, k: u64) -> u64
+    requires { ⌜ (1 ≤ k) × (k ≤ 64) × (mark ≤ 1) × (held ≡ marks k window) ⌝ }
+    ensures { λ r. ⌜ r ≡ marks k (shifted k window mark) ⌝ }
 {
-    if marks_in(window, k) < m { 1 } else { 0 }
+    held + mark - (window >> (k - 1) & 1)
+}
+
+// 1 where fewer than m met marks are held, else 0.
+fn one_if_short(held: u64, m: u64) -> u64
+    ensures { λ r. ⌜ (r ≡ bit (ltb held m)) × (r ≤ 1) ⌝ }
+{
+    if held < m { 1 } else { 0 }
 }
 
 // How many further misses in a row the task can bear. From the newest mark on, marks are taken in until m of them are met: the n marks not taken
@@ -72,13 +81,14 @@ pub fn spare(window: u64, m: u64, k: u64) -> u64
     n
 }
 
-// The tally after a job of that kind is settled, with mark 1 for met and 0 for missed: the window shifts, one count goes up, and
-// a window that then holds fewer than m met marks is counted as broken.
+// The tally after a job of that kind is settled, with mark 1 for met and 0 for missed: the window shifts, the number of its met marks is
+// amended, one count goes up, and a window that then holds fewer than m met marks is counted as broken.
 fn settle(y: Tally, kind: u64, mark: u64, m: u64, k: u64) -> Tally
     requires { ⌜ (InRange m k) × (mark ≤ 1) × (Countable k (tallySaid y)) ⌝ }
     ensures { λ r. ⌜ tallySaid r ≡ settled m k kind mark (tallySaid y) ⌝ }
 {
     let window = shift(y.window, mark, k);
+    let held = amend(y.held, y.window, mark, k);
     Tally {
         window,
         released: y.released,
@@ -86,7 +96,8 @@ fn settle(y: Tally, kind: u64, mark: u64, m: u64, k: u64) -> Tally
         mx: y.mx + one_if(kind, 1, mark, 0),
         om: y.om + one_if(kind, 0, mark, 1),
         ox: y.ox + one_if(kind, 0, mark, 0),
-        broken: y.broken + one_if_short(window, m, k),
+        broken: y.broken + one_if_short(held, m),
+        held,
     }
 }
 

@@ -14,7 +14,7 @@ use Rattle.law.specs.Tick.{shifted, marks}
 use Rattle.law.proofs.Pattern.{counted-among}
 use Rattle.law.proofs.Sums.{among-size}
 use Rattle.law.proofs.Tests.{bit-most, bit-mono}
-use Rattle.law.proofs.Window.{shift-newest, shift-older}
+use Rattle.law.proofs.Window.{shift-newest, shift-older, full-bit}
 
 -- the mark of the b-th newest of z settled jobs; a met mark stands for each job before the first
 abbrev pub markOfJob : (ℕ → Bool) → ℕ → ℕ → ℕ
@@ -30,17 +30,9 @@ mark-before good z b h = rw (le-ltb b z h)
 mark-job : (good : ℕ → Bool) (z b : ℕ) → b < z → markOfJob good z b ≡ bit (good (z - 1 - b))
 mark-job good z b h = rw (lt-ltb b z h)
 
-all-ones : (j b : ℕ) → (2 ^ (suc j + b) - 1) / 2 ^ b % 2 ≡ 1
-all-ones j b =
-    ap (λ (z : ℕ). z / 2 ^ b % 2) (ones-split (suc j) b) ∙ ap (λ (z : ℕ). z % 2) (high (2 ^ suc j - 1) b (ones-lt b))
-    ∙ omega (arith, pow-suc 2 j, pow-pos j)
-
 pub fresh-shows : (k : ℕ) (good : ℕ → Bool) → Shows k (2 ^ k - 1) good 0
 fresh-shows k good =
-    record {
-      shown = λ b h. let e : k ≡ suc (k - suc b) + b = omega arith in
-          ap (λ (z : ℕ). (2 ^ z - 1) / 2 ^ b % 2) e ∙ all-ones (k - suc b) b ∙ sym (mark-before good 0 b (omega arith));
-    }
+    record { shown = λ b h. full-bit k b h ∙ sym (mark-before good 0 b (omega arith)) }
 
 older-mark : (good : ℕ → Bool) (z b : ℕ) → markOfJob good z b ≡ markOfJob good (suc z) (suc b)
 older-mark good z b =

@@ -29,6 +29,7 @@ fn answer(case: &[u64]) {
         8 => texts::read(case),
         9 => texts::write(case),
         10 => texts::print(case),
+        11 => run::held(case),
         _ => {}
     }
     io::write_all(STDOUT_FILENO, b"\n");

@@ -1,4 +1,4 @@
-// Operations over a state, which stands in a room of the length asked, at most 640: 5 fresh, 6 run, 7 counts.
+// Operations over a state, which stands in a room of the length asked, at most 640: 5 fresh, 6 run, 7 counts, 11 met marks.
 use crate::numbers::low_at;
 use crate::numbers::number_at;
 use crate::numbers::wide_part_of;
@@ -6,6 +6,8 @@ use crate::numbers::words_of;
 use crate::show;
 use crate::show::BEFORE;
 use dispatch::counts::counts_words;
+use dispatch::held::Marks;
+use dispatch::held::held_words;
 use dispatch::run::run_words;
 use dispatch::run::tick_words;
 use dispatch::start::Started;
@@ -90,4 +92,22 @@ pub(crate) fn counts(case: &[u64]) {
     let length = wide_part_of(case, 1, &state);
     let words = wide_part_of(case, 6, &room);
     counts_in(case, &table[..n], &mut state[..length], &mut room[..words]);
+}
+
+fn held_in(case: &[u64], table: &[u32], state: &mut [u64]) {
+    begin(case, table, state);
+    match held_words(state, low_at(case, 5)) {
+        Marks::Held(marks) => show::accepted(marks),
+        Marks::Refused(r) => show::refused(r),
+    }
+}
+
+// `11 length n place value row words`: fresh, n ticks, the word at the place changed, how many met marks the row has; an answer of each but the
+// change.
+pub(crate) fn held(case: &[u64]) {
+    let mut table = [0u32; 256];
+    let mut state = [BEFORE as u64; 640];
+    let n = words_of(case, 6, &mut table);
+    let length = wide_part_of(case, 1, &state);
+    held_in(case, &table[..n], &mut state[..length]);
 }

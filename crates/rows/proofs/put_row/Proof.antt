@@ -172,6 +172,15 @@ mul-words-18 c = search needs
 slice-write-words-18 : tie.Need-slice-write-words-18
 slice-write-words-18 c = simp length-set (omega arith)
 
+add-words-19 : tie.Need-add-words-19
+add-words-19 c = search needs
+
+mul-words-19 : tie.Need-mul-words-19
+mul-words-19 c = search needs
+
+slice-write-words-19 : tie.Need-slice-write-words-19
+slice-write-words-19 c = simp length-set (omega arith)
+
 same-length : tie.Need-same-length
 same-length c = simp length-set
 
@@ -238,5 +247,8 @@ put-row-spec =
     add-words-18
     mul-words-18
     slice-write-words-18
+    add-words-19
+    mul-words-19
+    slice-write-words-19
     same-length
     returns)

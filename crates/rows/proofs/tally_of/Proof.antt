@@ -25,17 +25,21 @@ word-requires-6 c κs = search needs
 word-requires-7 : tie.Need-word-requires-7
 word-requires-7 c κs = search needs
 
+word-requires-8 : tie.Need-word-requires-8
+word-requires-8 c κs = search needs
+
 returns : tie.Need-returns
 unfolding rowOf
 returns c =
     λ i. record {
-      window = c .before .before .before .before .before .before .word .ensures i;
-      released = c .before .before .before .before .before .word2 .ensures i;
-      mm = c .before .before .before .before .word3 .ensures i;
-      mx = c .before .before .before .word4 .ensures i;
-      om = c .before .before .word5 .ensures i;
-      ox = c .before .word6 .ensures i;
-      broken = c .word7 .ensures i;
+      window = c .before .before .before .before .before .before .before .word .ensures i;
+      released = c .before .before .before .before .before .before .word2 .ensures i;
+      mm = c .before .before .before .before .before .word3 .ensures i;
+      mx = c .before .before .before .before .word4 .ensures i;
+      om = c .before .before .before .word5 .ensures i;
+      ox = c .before .before .word6 .ensures i;
+      broken = c .before .word7 .ensures i;
+      held = c .word8 .ensures i;
     }
 
 pub tally-of-spec : {M : Type 1} → statement M
@@ -49,4 +53,5 @@ tally-of-spec =
     word-requires-5
     word-requires-6
     word-requires-7
+    word-requires-8
     returns)

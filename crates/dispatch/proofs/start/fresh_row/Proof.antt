@@ -26,6 +26,7 @@ returns c =
             om = 0;
             ox = 0;
             broken = 0;
+            held = t .k;
           };
     }
 

@@ -30,7 +30,7 @@ record Laying (table words : List ℕ) (i : ℕ) : Type 0 where
 few : (table : List ℕ) → WellFormed (tableOf table) → length table / 6 ≤ 32
 few table w = omega (arith, table-length table, w .rows-high)
 
-laying-start : (table words : List ℕ) → WellFormed (tableOf table) → words ≡ replicate 579 0 → Laying table (set words 0 (length table / 6)) 0
+laying-start : (table words : List ℕ) → WellFormed (tableOf table) → words ≡ replicate 611 0 → Laying table (set words 0 (length table / 6)) 0
 laying-start table words w e =
     let n = length table / 6 in
     let l : length (replicate n noRow) ≡ n = length-replicate n noRow in

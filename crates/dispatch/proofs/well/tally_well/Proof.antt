@@ -1,13 +1,15 @@
 -- `dispatch::well::tally_well` meets its contract: each way out is a test of the law, and the sum is looked at only where it is small.
 use mathlib.Core.Path.{_≡_, sym, ap, _∙_}
-use Prim.Native.Nat.{ℕ, _+_, _<_, _≤_}
+use Prim.Native.Nat.{ℕ, _+_, _^_, _<_, _≤_}
 use native.Mathlib.Omega.{arith}
+use lib.Dec.{ltb, eqb}
+use borrow.Author.Tests.{ltb-true, not-true, not-false}
 use Rattle.law.specs.Sums.{bit}
 use Rattle.law.specs.Tick.{Tally, live}
 use Rattle.law.specs.State.{settledCounts}
 use Rattle.tally.specs.Said.{tallySaid}
 use Rattle.rows.specs.Said.{rowSaid}
-use Rattle.dispatch.proofs.Tests.{released-off, balance-off, broken-off, tally-on}
+use Rattle.dispatch.proofs.Tests.{released-off, balance-off, broken-off, window-off, tally-on}
 use borrow.Author.Needs.{needs}
 use Rattle.dispatch.proofs.well.tally_well.Statement.{statement}
 use Rattle.dispatch.proofs.well.tally_well.Tie as tie
@@ -76,10 +78,26 @@ window-fits-requires c κs =
     let g = c .before .before .before .before .before .before .before .before .before .before .before .before .before .before .before .before .before .before .before .before .pre .1 in
     (omega (arith, g .m-low, g .m-high), g .k-high)
 
+fits : (c : tie.After-window-fits) → c .window-fits .result ≡ ltb (c .before .before .before .before .before .before .before .before .before .before .before .before .before .before .before .before .before .before .before .before .before .args .r .tally .window) (2 ^ c .before .before .before .before .before .before .before .before .before .before .before .before .before .before .before .before .before .before .before .before .before .args .r .task .k)
+fits c = c .window-fits .ensures
+
 returns-8 : tie.Need-returns-8
 returns-8 c =
-    let o = c .before .before .before .before .before in
-    c .window-fits .ensures ∙ tally-on _ _ _ (o .before .before .before .before .before .before .before .before .before .before .before .before .before .if1 .left) (even o (c .before .before .before .if6 .left)) (c .before .if7 .left)
+    let o = c .before .before .before .before .before .before in
+    window-off _ _ _ (o .before .before .before .before .before .before .before .before .before .before .before .before .before .if1 .left) (even o (c .before .before .before .before .if6 .left)) (c .before .before .if7 .left)
+    (sym (fits (c .before)) ∙ not-true _ (c .if8 .taken))
+
+marks-in-requires : tie.Need-marks-in-requires
+marks-in-requires c κs = ltb-true _ _ (sym (fits (c .before)) ∙ not-false _ (c .if8 .left))
+
+returns-9 : tie.Need-returns-9
+returns-9 c =
+    let a = c .before in
+    let f = a .before .before in
+    let o = f .before .before .before .before .before in
+    ap (eqb _) (a .marks-in .ensures)
+    ∙ tally-on _ _ _ (o .before .before .before .before .before .before .before .before .before .before .before .before .before .if1 .left) (even o (f .before .before .before .if6 .left)) (f .before .if7 .left)
+    (sym (fits f) ∙ not-false _ (a .before .if8 .left))
 
 pub tally-well-spec : {M : Type 1} → statement M
 tally-well-spec =
@@ -98,4 +116,6 @@ tally-well-spec =
     returns-6
     returns-7
     window-fits-requires
-    returns-8)
+    returns-8
+    marks-in-requires
+    returns-9)

@@ -48,6 +48,7 @@ returns c =
             om = r .tally .om;
             ox = r .tally .ox;
             broken = r .tally .broken;
+            held = r .tally .held;
           };
     })
 
