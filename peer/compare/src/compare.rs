@@ -2,6 +2,7 @@
 
 mod counts;
 mod dispatch;
+mod held;
 mod pattern;
 mod promise;
 mod report;
@@ -58,6 +59,7 @@ pub fn all() -> impl Iterator<Item = &'static Comparison> {
         verdict::ALL,
         dispatch::ALL,
         counts::ALL,
+        held::ALL,
         promise::ALL,
         text::ALL,
         report::ALL,

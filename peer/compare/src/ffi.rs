@@ -31,6 +31,7 @@ unsafe extern "C" {
     fn gp_tick(state: *mut u64, n: usize) -> CAnswer;
     fn gp_run(state: *mut u64, n: usize, ticks: u32) -> CAnswer;
     fn gp_counts(state: *const u64, n: usize, row: u32, room: *mut u64, room_n: usize) -> CAnswer;
+    fn gp_held(state: *const u64, n: usize, row: u32) -> CAnswer;
     fn gp_read(text: *const u8, n: usize, room: *mut u32, room_n: usize) -> CAnswer;
     fn gp_write(words: *const u32, n: usize, room: *mut u8, room_n: usize) -> CAnswer;
     fn gp_report(input: *const u8, n: usize, room: *mut u8, room_n: usize) -> CAnswer;
@@ -66,7 +67,7 @@ pub fn verdict(words: &[u32], room: &mut [u32]) -> Answer {
     unsafe { gp_verdict(words.as_ptr(), words.len(), place, length) }.into()
 }
 
-/// The fresh state of a table, laid into the first 579 words of the room.
+/// The fresh state of a table, laid into the first 611 words of the room.
 #[inline]
 pub fn fresh(table: &[u32], room: &mut [u64]) -> Answer {
     let (place, length) = (room.as_mut_ptr(), room.len());
@@ -102,6 +103,13 @@ pub fn counts(state: &[u64], row: u32, room: &mut [u64]) -> Answer {
     let (place, length) = (room.as_mut_ptr(), room.len());
     // SAFETY: as in [`verdict`], with a state for the table.
     unsafe { gp_counts(state.as_ptr(), state.len(), row, place, length) }.into()
+}
+
+/// The number of met marks of one row of a saved state, as it is stored.
+#[inline]
+pub fn held(state: &[u64], row: u32) -> Answer {
+    // SAFETY: as in [`check`].
+    unsafe { gp_held(state.as_ptr(), state.len(), row) }.into()
 }
 
 /// The table of a task text, its words written to the room.
@@ -183,6 +191,13 @@ pub fn counts_lent(state: &mut Lent<u64>, row: u32, room: &mut Lent<u64>) -> Ans
     let (place, length) = (room.pointer(), room.len());
     // SAFETY: as in [`verdict_lent`].
     unsafe { gp_counts(words, words_length, row, place, length) }.into()
+}
+
+/// [`held`] on words whose surroundings are watched.
+pub fn held_lent(state: &mut Lent<u64>, row: u32) -> Answer {
+    let (place, length) = (state.pointer(), state.len());
+    // SAFETY: as in [`check_lent`].
+    unsafe { gp_held(place, length, row) }.into()
 }
 
 /// [`read`] on a text and a room whose surroundings are watched.

@@ -7,8 +7,10 @@
 //! beginning of every one of them is kept in a set. Whether bytes are the
 //! beginning of some text is then asked afresh for each length, line by line.
 //!
-//! [`spare`] does the same for the figure of that name.
+//! [`spare`] does the same for the figure of that name, and [`held`] for the number
+//! of met marks.
 
+pub mod held;
 pub mod spare;
 
 use std::collections::{HashMap, HashSet};

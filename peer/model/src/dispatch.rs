@@ -11,8 +11,13 @@ pub const CLOCK_END: u32 = u32::MAX;
 pub const HEAD_WORDS: usize = 3;
 
 /// Words of one saved row: id, c, t, d, m, k, wait, place, work, left, kind,
-/// window, released, mm, mx, om, ox, broken.
-pub const SAVED_ROW_WORDS: usize = 18;
+/// window, released, mm, mx, om, ox, broken, held.
+pub const SAVED_ROW_WORDS: usize = 19;
+
+/// Where the number of met marks stands in a saved row, and the window that it is
+/// the number of.
+pub const HELD: usize = 18;
+pub const WINDOW: usize = 11;
 
 /// Words of a saved state: always room for 32 rows.
 pub const STATE_WORDS: usize = HEAD_WORDS + ROWS_MAX * SAVED_ROW_WORDS;
@@ -50,6 +55,8 @@ pub struct Row {
     pub ox: u32,
     /// "broken windows"
     pub broken: u32,
+    /// "the number of met marks" that the window holds (document 02, 2/14)
+    pub held: u32,
 }
 
 /// "A state at time t holds the table, the time, the idle count and for each
@@ -116,6 +123,7 @@ impl Row {
             m: task.m,
             k: task.k,
             window: marks(task.k),
+            held: task.k,
             ..Row::default()
         }
     }
@@ -164,7 +172,8 @@ impl Row {
 
     /// What is asked of a row once its table is known to be well formed: "wait
     /// is 0..T-1; the place is below k; the work left is 0..C" and "window bits
-    /// from k up are clear".
+    /// from k up are clear"; and "a caller's state in which it isn't true is not
+    /// well formed", the number of met marks (document 02, 2/14).
     fn well_formed(&self, time: u32) -> bool {
         self.counts_well_formed(time)
             && self.wait < self.t
@@ -172,6 +181,7 @@ impl Row {
             && self.work <= self.c
             && self.job_well_formed()
             && self.window & !marks(self.k) == 0
+            && self.held == self.window.count_ones()
     }
 }
 
@@ -284,13 +294,17 @@ fn release(row: &mut Row, pattern: u64) -> u32 {
 }
 
 /// "A settled job shifts its row's window: the newest mark is bit 0, 1 for met,
-/// older marks move up, the mark that reaches bit k is cut." The counts follow,
-/// and "work, deadline and kind become 0".
+/// older marks move up, the mark that reaches bit k is cut." The number of met
+/// marks goes up by the mark that comes in and down by the one that is cut, which
+/// is among them if it is met. The counts follow, and "work, deadline and kind
+/// become 0".
 #[inline]
 fn settle(row: &mut Row) {
     let met = row.work == 0;
+    let cut = (row.window >> (row.k - 1) & 1) as u32;
+    row.held = row.held + u32::from(met) - cut;
     row.window = (row.window << 1 | u64::from(met)) & marks(row.k);
-    row.broken += u32::from(row.window.count_ones() < row.m);
+    row.broken += u32::from(row.held < row.m);
     match (row.kind == 1, met) {
         (true, true) => row.mm += 1,
         (true, false) => row.mx += 1,
@@ -461,7 +475,7 @@ pub fn tick(state: &mut State) -> Answer {
     run(state, 1)
 }
 
-/// The saved form of a state: [rows, time, idle], then 32 rows of 18 words.
+/// The saved form of a state: [rows, time, idle], then 32 rows of 19 words.
 pub fn to_words(state: &State) -> [u64; STATE_WORDS] {
     let mut words = [0; STATE_WORDS];
     words[0] = u64::from(state.rows);
@@ -479,20 +493,28 @@ fn saved_row(row: &Row) -> [u64; SAVED_ROW_WORDS] {
         row.id, row.c, row.t, row.d, row.m, row.k, row.wait, row.place, row.work, row.left,
         row.kind,
     ];
-    let high = [row.released, row.mm, row.mx, row.om, row.ox, row.broken];
+    let high = [
+        row.released,
+        row.mm,
+        row.mx,
+        row.om,
+        row.ox,
+        row.broken,
+        row.held,
+    ];
     let mut saved = [0; SAVED_ROW_WORDS];
     for (word, field) in saved.iter_mut().zip(low) {
         *word = u64::from(field);
     }
-    saved[11] = row.window;
-    for (word, field) in saved[12..].iter_mut().zip(high) {
+    saved[WINDOW] = row.window;
+    for (word, field) in saved[WINDOW + 1..].iter_mut().zip(high) {
         *word = u64::from(field);
     }
     saved
 }
 
 /// The state that the words save, or `None` when there is none: a length other
-/// than 579, or a word too large for its field. Well formed or not is another
+/// than 611, or a word too large for its field. Well formed or not is another
 /// question.
 pub fn from_words(words: &[u64]) -> Option<State> {
     let words: &[u64; STATE_WORDS] = words.try_into().ok()?;
@@ -523,13 +545,14 @@ fn row_from(saved: &[u64; SAVED_ROW_WORDS]) -> Option<Row> {
         work: field(8)?,
         left: field(9)?,
         kind: field(10)?,
-        window: saved[11],
+        window: saved[WINDOW],
         released: field(12)?,
         mm: field(13)?,
         mx: field(14)?,
         om: field(15)?,
         ox: field(16)?,
         broken: field(17)?,
+        held: field(HELD)?,
     })
 }
 
@@ -549,7 +572,7 @@ pub fn run_words(words: &mut [u64], n: u32) -> Answer {
     };
     let answer = run(&mut state, n);
     if answer.is_accepted() {
-        // The length is 579: from_words has taken these words.
+        // The length is 611: from_words has taken these words.
         words.copy_from_slice(&to_words(&state));
     }
     answer
@@ -560,7 +583,7 @@ pub fn tick_words(words: &mut [u64]) -> Answer {
     run_words(words, 1)
 }
 
-/// The fresh state of a table, saved into the first 579 words of the lent room.
+/// The fresh state of a table, saved into the first 611 words of the lent room.
 /// The table's refusals come first, then 13. The value is the number of rows.
 pub fn fresh_words(table: &[u32], room: &mut [u64]) -> Answer {
     let state = match fresh(table) {

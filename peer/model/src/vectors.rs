@@ -17,9 +17,10 @@
 //! | `8 room bytes` | read the text | answer, every word of the room |
 //! | `9 room words` | write the table's text | answer, every byte of the room |
 //! | `10 room bytes` | what the printing program prints | answer, every byte of the room |
+//! | `11 room n at value row words` | fresh, n ticks, the word at `at` made `value`, the row's met marks | three answers |
 //!
 //! An answer is two numbers, the refusal's and the value. `room`, and `counts`
-//! for the last operation, are the lengths of lent rooms. A place past the room's
+//! for the seventh operation, are the lengths of lent rooms. A place past the room's
 //! end changes nothing. A state is shown by its head and its rows, word by word,
 //! where the room could hold one, and by a digest of the whole room.
 

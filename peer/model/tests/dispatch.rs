@@ -2,6 +2,7 @@
 //! which states are well formed.
 
 use peer::answer::Answer;
+use peer::brute::held::met_among;
 use peer::dispatch::{
     fresh, fresh_words, from_words, run, run_watched, run_words, spare, tick, tick_words, to_words,
     well_formed, well_formed_words, State, STATE_WORDS,
@@ -28,9 +29,10 @@ const WINDOW: usize = 11;
 const RELEASED: usize = 12;
 const MM: usize = 13;
 const BROKEN: usize = 17;
+const HELD: usize = 18;
 
 fn row(at: usize) -> std::ops::Range<usize> {
-    3 + 18 * at..3 + 18 * (at + 1)
+    3 + 19 * at..3 + 19 * (at + 1)
 }
 
 /// Step 1: "Every row with wait 0 releases its next job".
@@ -44,6 +46,11 @@ fn release_literally(row: &mut [u64]) {
         row[PLACE] = (row[PLACE] + 1) % row[K];
         row[RELEASED] += 1;
     }
+}
+
+/// The met marks of the row's window, counted anew.
+fn held_literally(row: &[u64]) -> u64 {
+    met_among(row[WINDOW], row[K] as u32).into()
 }
 
 /// Step 4, for a row that had a live job in the tick.
@@ -61,7 +68,8 @@ fn settle_literally(row: &mut [u64]) {
     row[count] += 1;
     let older = u128::from(row[WINDOW]) << 1;
     row[WINDOW] = ((older | u128::from(met)) % (1 << row[K])) as u64;
-    if u64::from(row[WINDOW].count_ones()) < row[M] {
+    row[HELD] = held_literally(row);
+    if row[HELD] < row[M] {
         row[BROKEN] += 1;
     }
     row[WORK..=KIND].fill(0);
@@ -107,11 +115,12 @@ fn row_well_formed_literally(row: &[u64], time: u64) -> bool {
         && row[WORK] <= row[C]
         && job
         && clear
+        && row[HELD] == held_literally(row)
 }
 
 /// "A state offered by a caller is well formed when .."
 fn well_formed_literally(words: &[u64]) -> bool {
-    if words.len() != 579 || words[0] > 32 {
+    if words.len() != 611 || words[0] > 32 {
         return false;
     }
     let rows = words[0] as usize;
@@ -126,7 +135,7 @@ fn well_formed_literally(words: &[u64]) -> bool {
         && words[1] <= CLOCK_END
         && words[2] <= words[1]
         && (0..rows).all(|at| row_well_formed_literally(&words[row(at)], words[1]))
-        && words[3 + 18 * rows..].iter().all(|&word| word == 0)
+        && words[3 + 19 * rows..].iter().all(|&word| word == 0)
 }
 
 /// "14 | state not well formed", or accepted.
@@ -157,13 +166,13 @@ fn drawn_states_are_well_formed() {
     assert!(live > 10_000 && dead > 10_000 && unreached > 1_000);
 }
 
-/// The word's name: 0 to 2 in the head, 3 to 20 in a row; none past the last row.
+/// The word's name: 0 to 2 in the head, 3 to 21 in a row; none past the last row.
 fn field_of(words: &[u64], at: usize) -> Option<usize> {
     let rows = words[0].min(32) as usize;
     match at {
         0..3 => Some(at),
-        _ if at >= 3 + 18 * rows => None,
-        _ => Some(3 + (at - 3) % 18),
+        _ if at >= 3 + 19 * rows => None,
+        _ => Some(3 + (at - 3) % 19),
     }
 }
 
@@ -171,7 +180,7 @@ fn field_of(words: &[u64], at: usize) -> Option<usize> {
 #[test]
 fn damaged_states_are_told_apart() {
     let mut rng = Rng::new(11);
-    let (mut kept, mut broken, mut past) = ([0u32; 21], [0u32; 21], 0);
+    let (mut kept, mut broken, mut past) = ([0u32; 22], [0u32; 22], 0);
     for _ in 0..300 {
         let good = state(&mut rng);
         for damaged in damaged_states(&mut rng, &good) {
@@ -187,9 +196,10 @@ fn damaged_states_are_told_apart() {
         }
     }
     assert!(broken.iter().all(|&cases| cases > 100), "{broken:?}");
-    // The released count and the four settled ones are tied to one another and
-    // the number of rows to the rows: none of these can change alone.
-    let tied = [0, 3 + 12, 3 + 13, 3 + 14, 3 + 15, 3 + 16];
+    // The released count and the four settled ones are tied to one another, the
+    // number of rows to the rows and that of met marks to the window: none of these
+    // can change alone.
+    let tied = [0, 3 + 12, 3 + 13, 3 + 14, 3 + 15, 3 + 16, 3 + HELD];
     for (field, &cases) in kept.iter().enumerate() {
         assert_eq!(cases == 0, tied.contains(&field), "word {field}: {cases}");
     }
@@ -197,10 +207,10 @@ fn damaged_states_are_told_apart() {
 }
 
 /// A state with time 10 and idle 3. Row 0 has no live job, row 1 has one.
-fn two_rows() -> [u64; 579] {
-    let mut words = [0; 579];
+fn two_rows() -> [u64; 611] {
+    let mut words = [0; 611];
     words[..3].copy_from_slice(&[2, 10, 3]);
-    let dead = [7, 2, 5, 4, 1, 2, 4, 1, 0, 0, 0, 3, 2, 1, 0, 1, 0, 2];
+    let dead = [7, 2, 5, 4, 1, 2, 4, 1, 0, 0, 0, 1, 2, 1, 0, 1, 0, 2, 1];
     let live = [
         8,
         3,
@@ -220,6 +230,7 @@ fn two_rows() -> [u64; 579] {
         2,
         2,
         9,
+        64,
     ];
     words[row(0)].copy_from_slice(&dead);
     words[row(1)].copy_from_slice(&live);
@@ -227,7 +238,7 @@ fn two_rows() -> [u64; 579] {
 }
 
 /// Each bound by hand: row, word, value and whether the state stays well formed.
-const BOUNDS: [(usize, usize, u64, bool); 37] = [
+const BOUNDS: [(usize, usize, u64, bool); 48] = [
     // wait 0..T-1, and no less than the ticks left of a live job
     (0, WAIT, 0, true),
     (0, WAIT, 5, false),
@@ -250,10 +261,22 @@ const BOUNDS: [(usize, usize, u64, bool); 37] = [
     (1, KIND, 0, true),
     (1, KIND, 2, false),
     (0, KIND, 1, false),
-    // window bits from k up are clear
-    (0, WINDOW, 0, true),
+    // window bits from k up are clear, also where as many are set as before
+    (0, WINDOW, 2, true),
     (0, WINDOW, 4, false),
-    (1, WINDOW, 1 << 63, true),
+    (0, WINDOW, 5, false),
+    // the number of met marks is the window's, whichever of the two was changed
+    (0, WINDOW, 0, false),
+    (0, WINDOW, 3, false),
+    (1, WINDOW, 1 << 63, false),
+    (1, WINDOW, u64::MAX - 1, false),
+    (0, HELD, 0, false),
+    (0, HELD, 2, false),
+    (0, HELD, (1 << 32) + 1, false),
+    (1, HELD, 63, false),
+    (1, HELD, 65, false),
+    (2, HELD, 1, false),
+    (31, HELD, 1, false),
     // counts
     (0, BROKEN, 3, false),
     (1, BROKEN, 10, false),
@@ -364,7 +387,7 @@ fn fresh_runs_follow_the_four_steps() {
     let mut rng = Rng::new(14);
     for _ in 0..2_000 {
         let table = table(&mut rng);
-        let mut words = vec![0; 579];
+        let mut words = vec![0; 611];
         assert!(fresh_words(&table, &mut words).is_accepted());
         let mut expected = words.clone();
         let n = rng.below(600) as u32;
@@ -483,9 +506,9 @@ fn the_clocks_end() {
 }
 
 /// "Fresh: time 0, idle 0, wait 0, place 0, nothing live, counts 0, window of k
-/// met marks".
+/// met marks", and k is their number.
 fn fresh_literally(table: &[u32]) -> Vec<u64> {
-    let mut words = vec![0; 579];
+    let mut words = vec![0; 611];
     words[0] = table.len() as u64 / 6;
     for (at, six) in table.chunks(6).enumerate() {
         let saved = &mut words[row(at)];
@@ -493,6 +516,7 @@ fn fresh_literally(table: &[u32]) -> Vec<u64> {
             *word = u64::from(*field);
         }
         saved[WINDOW] = (0..six[5]).map(|bit| 1 << bit).sum();
+        saved[HELD] = u64::from(six[5]);
     }
     words
 }
@@ -507,7 +531,7 @@ fn fresh_states() {
         } else {
             table(&mut rng)
         };
-        let mut room = vec![3; [0, 578, 579, 579, 580, 600][rng.index(6)]];
+        let mut room = vec![3; [0, 610, 611, 611, 612, 600][rng.index(6)]];
         let mut expected = room.clone();
         let answer = fresh_words(&words, &mut room);
         seen[answer.refusal as usize] += 1;
@@ -518,7 +542,7 @@ fn fresh_states() {
             assert_eq!(answer, of_the_table);
         }
         if answer.is_accepted() {
-            expected[..579].copy_from_slice(&fresh_literally(&words));
+            expected[..611].copy_from_slice(&fresh_literally(&words));
         }
         assert_eq!(room, expected);
     }
@@ -536,9 +560,11 @@ fn saved_and_read_back() {
         assert!(well_formed(&state));
         assert_eq!(to_words(&state).as_slice(), words);
     }
-    assert!(from_words(&[0; 578]).is_none() && from_words(&[0; 580]).is_none());
-    assert!(from_words(&[0; 579]).is_some());
-    assert_eq!(well_formed_words(&[0; 579]), Answer::refused(14));
+    assert!(from_words(&[0; 610]).is_none() && from_words(&[0; 612]).is_none());
+    // What was a saved state before it had the number of met marks.
+    assert!(from_words(&[0; 579]).is_none());
+    assert!(from_words(&[0; 611]).is_some());
+    assert_eq!(well_formed_words(&[0; 611]), Answer::refused(14));
     assert_eq!(well_formed_words(&[]), Answer::refused(14));
 }
 

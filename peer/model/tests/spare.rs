@@ -180,6 +180,7 @@ fn broken_after_the_last_spare_miss() {
         // A job in each tick, with more work than it has ticks.
         let mut state = fresh(&[1, 2, 1, 1, m, k]).unwrap();
         state.row[0].window = drawn_window(&mut rng, k);
+        state.row[0].held = state.row[0].window.count_ones();
         let figure = spare(state.row[0].window, m, k);
         assert_eq!(run(&mut state, figure), Answer::accepted(0));
         assert_eq!(state.row[0].broken, 0, "m {m} k {k}, {figure} misses");

@@ -1,5 +1,6 @@
 //! Nothing panics: rubbish through every function.
 
+use peer::counts::held_words;
 use peer::dispatch::{fresh_words, well_formed_words, Row, State};
 use peer::dispatch::{from_words, run, run_words, spare, tick_words, to_words, well_formed};
 use peer::gen::{damaged_states, scrambled_state};
@@ -42,7 +43,7 @@ fn rubbish_words() {
         let mut text = vec![0; 1_400];
         assert_eq!(write(&words, &mut text).refusal, answer.refusal);
         assert!(text_of(&words).starts_with(b"rows="));
-        assert_eq!(fresh_words(&words, &mut [0; 579]), answer);
+        assert_eq!(fresh_words(&words, &mut [0; 611]), answer);
     }
 }
 
@@ -80,14 +81,16 @@ fn rubbish_bytes() {
 fn rubbish_states() {
     let mut rng = Rng::new(53);
     for _ in 0..3_000 {
-        let mut words: Vec<u64> = (0..579).map(|_| any_number(&mut rng)).collect();
+        let mut words: Vec<u64> = (0..611).map(|_| any_number(&mut rng)).collect();
         assert_eq!(
             run_words(&mut words, any_number(&mut rng) as u32).refusal,
             14
         );
+        held_words(&words, any_number(&mut rng) as u32);
         let length = rng.index(700);
         words.resize(length, 0);
         assert_eq!(tick_words(&mut words).refusal, 14);
+        held_words(&words, any_number(&mut rng) as u32);
         let mut scrambled = scrambled_state(&mut rng);
         let answer = well_formed_words(&scrambled);
         let ran = run_words(&mut scrambled, 3);

@@ -70,6 +70,7 @@ fn every_refusal_is_reached() {
     assert_eq!(given(8, 1), BTreeSet::from(text));
     assert_eq!(given(9, 1), with(&[0, 13]));
     assert_eq!(given(10, 1), BTreeSet::from([0, 13]));
+    assert_eq!(given(11, 5), BTreeSet::from([0, 14]));
 }
 
 #[test]
@@ -92,22 +93,38 @@ fn document_01_by_hand() {
     );
     // The printed example: row 0 after 24 ticks.
     assert_eq!(
-        answered(&format!("7 579 24 640 0 0 8 {p5}")),
+        answered(&format!("7 611 24 640 0 0 8 {p5}")),
         "7 0 2 0 0 0 0 6 3 0 2 1 0 1 4000000007\n"
     );
     // P10: job 0 is missed at time 1, which leaves the window without a mark.
-    let line = answered("6 579 0 640 0 0 1 2 4 1 1 1\n");
-    let shown = "6 0 1 0 0 0 0 0 0 0 0 1 1 0 1 2 4 1 1 1 3 0 0 0 0 0 1 0 1 0 0 1 ";
+    let line = answered("6 611 0 640 0 0 1 2 4 1 1 1\n");
+    let shown = "6 0 1 0 0 0 0 0 0 0 0 1 1 0 1 2 4 1 1 1 3 0 0 0 0 0 1 0 1 0 0 1 0 ";
     assert!(line.starts_with(shown), "{line}");
 }
 
 /// The windows of 1/14: met, missed, missed (newest last) and missed, missed, met.
-/// Bit 0 is the newest mark.
+/// Bit 0 is the newest mark. Two jobs are missed before, so that one met mark is
+/// left, as many as either window holds.
 #[test]
 fn document_02_by_hand() {
-    let of = |window| answered(&format!("7 579 0 14 {window} 0 7 1 1 2 2 1 3\n"));
-    assert_eq!(of(0b100), "7 0 1 0 0 0 0 0 0 0 0 0 0 0\n");
-    assert_eq!(of(0b001), "7 0 1 0 0 0 0 0 0 0 0 0 0 2\n");
+    let of = |window| answered(&format!("7 611 2 14 {window} 0 7 1 2 1 1 1 3\n"));
+    assert_eq!(of(0b100), "7 0 1 0 0 0 0 2 0 1 0 1 0 0\n");
+    assert_eq!(of(0b001), "7 0 1 0 0 0 0 2 0 1 0 1 0 2\n");
+    assert_eq!(of(0b011), "7 0 1 0 0 14 0 4000000007 4000000007 4000000007 4000000007 4000000007 4000000007 4000000007\n");
+}
+
+/// 2/14: the number as it stands in word 18 of the row, place 21 for row 0.
+#[test]
+fn met_marks_by_hand() {
+    let of = |head: &str| answered(&format!("11 {head} 1 2 1 1 1 3\n"));
+    assert_eq!(of("611 0 640 0 0"), "11 0 1 0 0 0 3\n");
+    assert_eq!(of("611 2 640 0 0"), "11 0 1 0 0 0 1\n");
+    assert_eq!(of("611 3 640 0 0"), "11 0 1 0 0 0 0\n");
+    assert_eq!(of("611 2 21 7 0"), "11 0 1 0 0 0 7\n");
+    assert_eq!(of("611 2 40 7 1"), "11 0 1 0 0 0 0\n");
+    assert_eq!(of("611 2 0 33 0"), "11 0 1 0 0 14 0\n");
+    assert_eq!(of("612 2 640 0 0"), "11 0 1 14 0 14 0\n");
+    assert_eq!(of("579 2 640 0 0"), "11 13 0 14 0 14 0\n");
 }
 
 #[test]
@@ -122,6 +139,10 @@ fn what_is_no_case() {
         (1, "5 641\n"),
         (1, "8 0 256\n"),
         (1, "9 4097\n"),
+        (1, "11 611 0 640 0\n"),
+        (1, "11 641 0 640 0 0\n"),
+        (1, "11 611 0 640 0 4294967296\n"),
+        (1, "12 611 0 640 0 0\n"),
     ] {
         assert_eq!(answers(text), Err(at), "{text:?}");
     }

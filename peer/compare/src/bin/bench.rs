@@ -8,6 +8,8 @@
 //! `--slow` adds two runs of the first program: 100,000,000 ticks, and from time 0
 //! to the clock's end.
 
+#[path = "bench/held.rs"]
+mod held;
 #[path = "bench/printing.rs"]
 mod printing;
 #[path = "bench/states.rs"]
@@ -85,8 +87,9 @@ fn main() -> ExitCode {
         alike &= states::single_ticks(&mut rng, rows);
     }
     alike &= states::counts(&mut rng);
-    // A copy draws for this line, so that the table of the long run stays as it is.
+    // A copy draws for these lines, so that the table of the long run stays as it is.
     alike &= states::counts_k_64(&mut rng.clone());
+    alike &= held::all(&mut rng.clone());
     alike &= printing::all();
     alike &= !slow || long_run(&mut rng) && states::clocks_end();
     match alike {
@@ -118,6 +121,17 @@ fn median(mut times: Vec<f64>) -> f64 {
 /// Times both in turns, the one that goes first changing from round to round,
 /// and prints the line; `size` answers come out of one call.
 fn line(name: &str, size: usize, ours: &mut dyn FnMut(), peer: &mut dyn FnMut()) {
+    line_beside(name, size, ours, "peer", peer);
+}
+
+/// The same where what is timed beside ours has a name of its own.
+fn line_beside(
+    name: &str,
+    size: usize,
+    ours: &mut dyn FnMut(),
+    other: &str,
+    peer: &mut dyn FnMut(),
+) {
     let (our_passes, peer_passes) = (passes(ours), passes(peer));
     let (mut our_times, mut peer_times) = (Vec::new(), Vec::new());
     for round in 0..ROUNDS {
@@ -133,7 +147,7 @@ fn line(name: &str, size: usize, ours: &mut dyn FnMut(), peer: &mut dyn FnMut())
     let (each, peer_each) = (ours / size as f64, peer / size as f64);
     let ratio = ours / peer;
     let digits = if ratio < 0.1 { 6 } else { 3 };
-    println!("bench {name} ours {each:.1} ns peer {peer_each:.1} ns ratio {ratio:.digits$}");
+    println!("bench {name} ours {each:.1} ns {other} {peer_each:.1} ns ratio {ratio:.digits$}");
 }
 
 #[inline(never)]

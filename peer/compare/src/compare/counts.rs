@@ -51,7 +51,7 @@ pub const ALL: &[Comparison] = &[
 
 /// Every row that a state can have and some past the last; rows whose low bits
 /// alone, or whose words' place in 32 bits, would be in range; the last number.
-fn rows() -> impl Iterator<Item = u32> {
+pub(super) fn rows() -> impl Iterator<Item = u32> {
     let far = [
         255,
         256,
@@ -92,7 +92,7 @@ fn room(rng: &mut Rng) -> Vec<u64> {
 }
 
 /// Both answers on a row and every word that was lent for them.
-fn same_counts(course: &mut Course, words: &[u64], row: u32, room: &[u64]) -> Compared {
+pub(super) fn same_counts(course: &mut Course, words: &[u64], row: u32, room: &[u64]) -> Compared {
     let mut lent_state = Lent::new(&mut course.rng, words);
     let mut lent_room = Lent::new(&mut course.rng, room);
     let first = ffi::counts_lent(&mut lent_state, row, &mut lent_room);
@@ -224,7 +224,7 @@ fn scrambled(course: &mut Course) -> Compared {
     Ok(())
 }
 
-/// Each bit of all 579 words turned over.
+/// Each bit of all 611 words turned over.
 fn bits(course: &mut Course) -> Compared {
     let good = ran(&mut course.rng);
     for words in every_bit(&good) {

@@ -6,11 +6,14 @@ mod runs;
 mod states;
 mod ticks;
 
+pub(super) use fresh::begun;
+
 use peer::answer::Answer;
 use peer::dispatch::{run_words, tick_words, well_formed_words};
 use peer::dispatch::{HEAD_WORDS, SAVED_ROW_WORDS};
 use peer::rng::Rng;
 
+use super::held::kept_true;
 use super::Comparison;
 use crate::course::{shown, Compared, Course, Difference};
 use crate::ffi;
@@ -43,7 +46,7 @@ pub const ALL: &[Comparison] = &[
 
 /// What can be asked of a saved state.
 #[derive(Clone, Copy, Debug)]
-enum Call {
+pub(super) enum Call {
     Well,
     Tick,
     Run(u32),
@@ -68,8 +71,8 @@ impl Call {
 }
 
 /// The words of one state, lent to the first program and kept for the second.
-struct Both {
-    first: Lent<u64>,
+pub(super) struct Both {
+    pub(super) first: Lent<u64>,
     peer: Vec<u64>,
 }
 
@@ -87,7 +90,7 @@ impl Both {
     }
 
     /// One call on each side: the answers, and the states handed back.
-    fn call(&mut self, course: &mut Course, call: Call) -> Compared {
+    pub(super) fn call(&mut self, course: &mut Course, call: Call) -> Compared {
         let before = self.peer.clone();
         let first = call.first(&mut self.first);
         let peer = call.peer(&mut self.peer);
@@ -97,6 +100,13 @@ impl Both {
             let before = state_shown(&before);
             format!("{call:?} on {before}\nfirst {first}\npeer  {peer}\n{apart}")
         })
+    }
+
+    /// One tick on each side, after which the first program's numbers of met marks
+    /// are those of its windows.
+    fn tick(&mut self, course: &mut Course) -> Compared {
+        self.call(course, Call::Tick)?;
+        kept_true(self.first.words()).map_err(Difference)
     }
 
     /// The words that are not the same, and those altered beside them.
@@ -116,7 +126,7 @@ impl Both {
 }
 
 /// A call on the words as they are.
-fn same_call(course: &mut Course, words: &[u64], call: Call) -> Compared {
+pub(super) fn same_call(course: &mut Course, words: &[u64], call: Call) -> Compared {
     Both::new(&mut course.rng, words).call(course, call)
 }
 
@@ -133,7 +143,7 @@ fn word_name(at: usize) -> String {
     const HEAD: [&str; HEAD_WORDS] = ["rows", "time", "idle"];
     const ROW: [&str; SAVED_ROW_WORDS] = [
         "id", "c", "t", "d", "m", "k", "wait", "place", "work", "left", "kind", "window",
-        "released", "mm", "mx", "om", "ox", "broken",
+        "released", "mm", "mx", "om", "ox", "broken", "held",
     ];
     match at.checked_sub(HEAD_WORDS) {
         None => HEAD[at].to_string(),
@@ -143,6 +153,9 @@ fn word_name(at: usize) -> String {
         }
     }
 }
+
+/// Where the settled counts begin in a saved row; the broken count follows them.
+const MM: usize = 13;
 
 /// The idle ticks and the settled and broken counts that runs from fresh came
 /// to: a comparison in which one of them stayed 0 says nothing about it.
@@ -158,8 +171,7 @@ impl Counted {
         let (head, rows) = words.split_at(HEAD_WORDS);
         self.idle += head[HEAD_WORDS - 1];
         for row in rows.chunks_exact(SAVED_ROW_WORDS) {
-            let counts = &row[SAVED_ROW_WORDS - self.rows.len()..];
-            for (sum, count) in self.rows.iter_mut().zip(counts) {
+            for (sum, count) in self.rows.iter_mut().zip(&row[MM..]) {
                 *sum += count;
             }
         }

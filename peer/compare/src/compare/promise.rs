@@ -10,6 +10,7 @@ use peer::gen::{loaded_table, tiny_table};
 use peer::promise::{judge, Kept, Trace};
 use peer::table::{Table, TaskRow, ROWS_MAX};
 
+use super::held::kept_true;
 use super::Comparison;
 use crate::course::{shown, Compared, Course, Difference};
 use crate::draw::{limit_pair, short_cycle_pair, LimitPair, Shape};
@@ -110,7 +111,8 @@ fn common_divisor(mut a: u64, mut b: u64) -> u64 {
 }
 
 /// The first program's dispatcher from fresh: the row that was given each tick,
-/// and the last state. Of an admitted table every state is looked at.
+/// and the last state. In every state the number of met marks must be that of the
+/// window; of an admitted table every state is looked at further.
 fn traced(words: &[u32], ticks: u32, admitted: bool) -> Result<Trace, String> {
     let mut saved = [0; STATE_WORDS];
     let answer = ffi::fresh(words, &mut saved);
@@ -120,6 +122,7 @@ fn traced(words: &[u32], ticks: u32, admitted: bool) -> Result<Trace, String> {
         let answer = ffi::tick(&mut saved);
         let after = read(answer, &saved)?;
         let at_tick = |fault| format!("tick {tick}: {fault}");
+        kept_true(&saved).map_err(at_tick)?;
         chosen.push(given(&state, &after).map_err(at_tick)?);
         if admitted {
             unbroken(&after).map_err(at_tick)?;

@@ -61,8 +61,9 @@ pub fn row_counts() -> impl Iterator<Item = u64> {
     bases.into_iter().flat_map(near).chain([u64::MAX])
 }
 
-/// Lengths on both sides of 579 words, and some that are far from it.
+/// Lengths on both sides of 611 words, and some that are far from it.
 pub fn state_lengths() -> impl Iterator<Item = usize> {
-    let far = [1_157, 1_158, 1_159, 65_536 + STATE_WORDS];
+    let twice = 2 * STATE_WORDS;
+    let far = [twice - 1, twice, twice + 1, 65_536 + STATE_WORDS];
     (0..=STATE_WORDS + 40).chain(far)
 }

@@ -4,18 +4,7 @@
 //! The time each takes grows with k. In a table that is at most 64, the marks
 //! that a window has room for.
 
-/// Whether the mark that has so many newer ones is met: "the newest mark is bit
-/// 0, 1 for met, older marks move up". A word has no marks past its last bit.
-fn is_met(window: u64, newer: u32) -> bool {
-    window
-        .checked_shr(newer)
-        .is_some_and(|marks| marks & 1 == 1)
-}
-
-/// Met ones among so many of the newest marks, counted one by one.
-fn met_among(window: u64, newest: u32) -> u32 {
-    (0..newest).filter(|&newer| is_met(window, newer)).count() as u32
-}
+use super::held::met_among;
 
 /// "Spare becomes the largest n for which the newest k - n marks still hold at
 /// least m; if the whole window holds fewer than m it is 0." Every n is tried,

@@ -1,7 +1,7 @@
 //! Saved states, well formed and damaged.
 
 use super::tables::{end_or_any, table};
-use crate::dispatch::{self, HEAD_WORDS, SAVED_ROW_WORDS, STATE_WORDS};
+use crate::dispatch::{self, HEAD_WORDS, HELD, SAVED_ROW_WORDS, STATE_WORDS, WINDOW};
 use crate::rng::Rng;
 use crate::table::{TaskRow, ROWS_MAX, ROW_WORDS};
 
@@ -11,7 +11,6 @@ const PLACE: usize = 7;
 const WORK: usize = 8;
 const LEFT: usize = 9;
 const KIND: usize = 10;
-const WINDOW: usize = 11;
 const RELEASED: usize = 12;
 const MM: usize = 13;
 const BROKEN: usize = 17;
@@ -42,7 +41,12 @@ pub fn state(rng: &mut Rng) -> Vec<u64> {
     words
 }
 
-/// Wait, place, job, window and counts of one row.
+/// The met marks of a window without bits from k up.
+fn met_in(window: u64) -> u64 {
+    window.count_ones().into()
+}
+
+/// Wait, place, job, window with its number of met marks, and counts of one row.
 fn fill_row(rng: &mut Rng, row: &mut [u64; SAVED_ROW_WORDS], task: &TaskRow, time: u64) {
     let wait = end_or_any(rng, 0, task.t - 1);
     row[WAIT] = u64::from(wait);
@@ -61,6 +65,7 @@ fn fill_row(rng: &mut Rng, row: &mut [u64; SAVED_ROW_WORDS], task: &TaskRow, tim
     } else {
         free & (u64::MAX >> (64 - task.k))
     };
+    row[HELD] = met_in(row[WINDOW]);
     row[RELEASED] = u64::from(end_or_any(rng, u32::from(live), time as u32));
     let settled = row[RELEASED] - u64::from(live);
     let mut rest = settled;
@@ -109,6 +114,8 @@ fn ends_of(good: &[u64], at: usize) -> Vec<u64> {
     let word = |at: usize| good.get(at).copied().unwrap_or(0);
     let now = word(at);
     let mut ends = vec![0, 1, 2, now.wrapping_add(1), now.wrapping_sub(1)];
+    // A window with as many met marks as before, each a place on.
+    ends.extend([now.rotate_left(1), now.rotate_right(1)]);
     ends.extend([64, 65, 65_535, 65_536]);
     ends.extend([
         u64::from(u32::MAX),
@@ -121,9 +128,11 @@ fn ends_of(good: &[u64], at: usize) -> Vec<u64> {
     if at >= HEAD_WORDS {
         let row = at - (at - HEAD_WORDS) % SAVED_ROW_WORDS;
         // Every other word of the row may be this word's bound, and so may the
-        // released count, a window of k marks and the sum of the counts.
+        // released count, a window of k marks, the marks met in it and the sum of
+        // the counts.
         bounds.extend((row..row + SAVED_ROW_WORDS).map(word));
         bounds.push(1u64.checked_shl(word(row + 5) as u32).unwrap_or(0));
+        bounds.push(met_in(word(row + WINDOW)));
         let counts = (row + MM..row + MM + 4).map(word);
         bounds.push(counts.fold(0, u64::wrapping_add));
     }
@@ -138,12 +147,13 @@ fn ends_of(good: &[u64], at: usize) -> Vec<u64> {
 
 /// A saved state with several words of one row changed at once: counts whose sum
 /// only comes out right when it overflows, a live job made or taken away, two
-/// rows with one id, a wrong length.
+/// rows with one id, a mark turned over with and without the number of met marks,
+/// a wrong length.
 pub fn scrambled_state(rng: &mut Rng) -> Vec<u64> {
     let mut words = state(rng);
     let rows = words[0] as usize;
     let row = HEAD_WORDS + rng.index(rows) * SAVED_ROW_WORDS;
-    match rng.below(7) {
+    match rng.below(9) {
         0 => {
             // The sum comes out as it was in 32 bits or in 64, mostly by overflowing.
             let up = [1 << 31, 1 << 32, 1 << 63];
@@ -159,6 +169,13 @@ pub fn scrambled_state(rng: &mut Rng) -> Vec<u64> {
         3 => words[row] = words[HEAD_WORDS],
         4 => words.truncate(rng.index(STATE_WORDS)),
         5 => words.extend([0; 4].iter().take(1 + rng.index(4))),
+        6 | 7 => {
+            // Mostly a mark of the window; now and then one past its k.
+            words[row + WINDOW] ^= 1 << rng.below(words[row + 5] + 1).min(63);
+            if rng.once_in(2) {
+                words[row + HELD] = met_in(words[row + WINDOW]);
+            }
+        }
         _ => {
             let at = rng.index(STATE_WORDS);
             words[at] = rng.bits() >> rng.below(64);

@@ -3,7 +3,7 @@
 use super::{line, BEFORE, BYTES_MAX, BYTE_BEFORE, BYTE_ROOM_MAX};
 use super::{COUNT_ROOM_MAX, ROOM_MAX, STATE_ROOM_MAX, WORDS_MAX};
 use crate::answer::Answer;
-use crate::counts::counts_words;
+use crate::counts::{counts_words, held_words};
 use crate::dispatch::{self, HEAD_WORDS, SAVED_ROW_WORDS, STATE_WORDS};
 use crate::pattern;
 use crate::report::report_into;
@@ -58,6 +58,10 @@ pub fn answer(case: &[u64]) -> Option<Vec<u64>> {
             let mut printed = byte_room(room)?;
             push(&mut out, report_into(&bytes(input)?, &mut printed));
             out.extend(printed.into_iter().map(u64::from));
+        }
+        [11, room, n, at, value, row, ref words @ ..] => {
+            let state = begun(&mut out, [room, n, at, value], words)?;
+            push(&mut out, held_words(&state, small(row)?));
         }
         _ => return None,
     }

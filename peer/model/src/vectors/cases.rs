@@ -5,7 +5,7 @@
 use super::{line, COUNT_ROOM_MAX, ROOM_MAX, STATE_ROOM_MAX};
 use crate::counts::COUNT_WORDS;
 use crate::dispatch::{fresh_words, run_words, CLOCK_END};
-use crate::dispatch::{HEAD_WORDS, SAVED_ROW_WORDS, STATE_WORDS};
+use crate::dispatch::{HEAD_WORDS, HELD, SAVED_ROW_WORDS, STATE_WORDS, WINDOW};
 use crate::gen::{damaged_states, faulty_table, job_question, loaded_table, table, tiny_table};
 use crate::gen::{
     damaged_text, good_text, longest_table, report_input, special_inputs, special_texts,
@@ -50,7 +50,7 @@ const EDGES: [u32; 12] = [
 /// Every case, operation by operation.
 pub fn cases() -> String {
     let parts = [
-        jobs, pairs, checks, verdicts, starts, runs, counts, readings, writings, reports,
+        jobs, pairs, checks, verdicts, starts, runs, counts, readings, writings, reports, held,
     ];
     let written = parts.iter().zip(1..).map(|(part, seed)| {
         let mut cases = Cases::new(seed);
@@ -266,14 +266,18 @@ fn verdicts(cases: &mut Cases) {
     }
 }
 
-/// Lengths of a room for a state, on both sides of 579.
-const STATE_ROOMS: [usize; 7] = [
+/// Words of a saved state before it had the number of met marks.
+const OLD_STATE_WORDS: usize = 579;
+
+/// Lengths of a room for a state, on both sides of 611.
+const STATE_ROOMS: [usize; 8] = [
     STATE_WORDS,
     STATE_WORDS - 1,
     STATE_WORDS + 1,
     0,
     1,
     300,
+    OLD_STATE_WORDS,
     STATE_ROOM_MAX,
 ];
 
@@ -376,6 +380,9 @@ fn runs(cases: &mut Cases) {
             cases.add(&[room, n.into(), at, value, more.into()], &words);
         }
     }
+    for (words, n, value) in untrue() {
+        cases.add(&[room, n, word_at(1, HELD), value, 3], &words);
+    }
 }
 
 fn counts(cases: &mut Cases) {
@@ -395,7 +402,9 @@ fn counts(cases: &mut Cases) {
         }
         cases.add(&[room, 24, NOWHERE, 0, CLOCK_END.into(), 7], words);
         cases.add(&[room, 24, 2, 25, 0, 6], words);
-        cases.add(&[room + 1, 24, NOWHERE, 0, 0, 7], words);
+        for length in [OLD_STATE_WORDS, STATE_WORDS - 1, STATE_WORDS + 1] {
+            cases.add(&[length as u64, 24, NOWHERE, 0, 0, 7], words);
+        }
     }
     for _ in 0..36 {
         let words = cases.few_rows(tiny_table);
@@ -411,11 +420,14 @@ fn counts(cases: &mut Cases) {
         }
     }
     spares(cases);
+    for (words, n, value) in untrue() {
+        cases.add(&[room, n, word_at(1, HELD), value, 1, 7], &words);
+    }
 }
 
-/// The window of a row, as a place of a saved state.
-fn window_at(row: usize) -> u64 {
-    (HEAD_WORDS + row * SAVED_ROW_WORDS + 11) as u64
+/// A word of a row, as a place of a saved state.
+fn word_at(row: usize, word: usize) -> u64 {
+    (HEAD_WORDS + row * SAVED_ROW_WORDS + word) as u64
 }
 
 /// Windows that tell the newest marks from the others, (m, k) and the marks:
@@ -447,16 +459,125 @@ const SPARES: [(u32, u32, u64); 22] = [
 ];
 
 /// Each of the windows in the first row of a table and in the second by turns,
-/// beside a row of another k.
+/// beside a row of another k. The row has a job in each tick, with more work than
+/// it has ticks: it misses so many that as many met marks are left as the window
+/// holds, which then takes their place.
 fn spares(cases: &mut Cases) {
     let (room, counts) = (STATE_WORDS as u64, COUNT_WORDS as u64);
     for (turn, (m, k, window)) in SPARES.into_iter().enumerate() {
         let row = turn % 2;
         let mut words = [7, 1, 4, 4, 2, 6, 8, 1, 4, 4, 2, 6];
-        words[row * ROW_WORDS + 4] = m;
-        words[row * ROW_WORDS + 5] = k;
-        let head = [room, 0, window_at(row), window, row as u64, counts];
-        cases.add(&head, &words);
+        words[row * ROW_WORDS + 1..][..5].copy_from_slice(&[2, 1, 1, m, k]);
+        let missed = u64::from(k - window.count_ones());
+        let at = word_at(row, WINDOW);
+        cases.add(&[room, missed, at, window, row as u64, counts], &words);
+    }
+}
+
+/// k of the windows at whose ends the number of met marks is looked at.
+const END_KS: [u32; 6] = [1, 2, 3, 32, 63, 64];
+
+/// Tables and ticks after which the window of row 1 has k marks and is, in turn:
+/// all met, all but the newest, the oldest alone, none, the newest alone, all but
+/// the oldest, and all again.
+fn ends(k: u32) -> [(Vec<u32>, u64); 7] {
+    // Row 0 comes first: in k ticks of k + 1, or in one tick of 2k.
+    let row_1 = [2, 1, 1, 1, 1, k];
+    let missing = [[1, k, k + 1, k + 1, 1, 1], row_1].concat();
+    let meeting = [[1, 1, 2 * k, 2 * k, 1, 1], row_1].concat();
+    let k = u64::from(k);
+    [
+        (missing.clone(), 0),
+        (missing.clone(), 1),
+        (missing.clone(), k - 1),
+        (missing.clone(), k),
+        (missing, k + 1),
+        (meeting.clone(), k),
+        (meeting, k + 1),
+    ]
+}
+
+/// The same with a number of met marks for row 1 that is not true: one more, one
+/// fewer.
+fn untrue() -> impl Iterator<Item = (Vec<u32>, u64, u64)> {
+    let cases = END_KS.into_iter().flat_map(ends);
+    cases.flat_map(|(words, n)| {
+        let held = state_at(&words, n as u32)[word_at(1, HELD) as usize];
+        let values = [held + 1, held.wrapping_sub(1)];
+        values.map(|value| (words.clone(), n, value))
+    })
+}
+
+fn held(cases: &mut Cases) {
+    let room = STATE_WORDS as u64;
+    let last = u64::from(u32::MAX);
+    for (words, n) in P[..SOUND]
+        .iter()
+        .flat_map(|words| [(words, 0), (words, 24)])
+    {
+        for row in [0, 1, 2, 31, 32, last] {
+            cases.add(&[room, n, NOWHERE, 0, row], words);
+        }
+    }
+    for (words, n) in END_KS.into_iter().flat_map(ends) {
+        for row in [0, 1, 2] {
+            cases.add(&[room, n, NOWHERE, 0, row], &words);
+        }
+    }
+    for row in [0, 1, 2, 31, 32, last] {
+        cases.add(&[room, 70, NOWHERE, 0, row], &rows_of(1));
+    }
+    for (rows, row) in [(31, 30), (31, 31), (32, 0), (32, 31), (32, 32), (32, last)] {
+        cases.add(&[room, 70, NOWHERE, 0, row], &rows_of(rows));
+    }
+    for _ in 0..40 {
+        let words = cases.few_rows(tiny_table);
+        let n = ticks(&mut cases.rng);
+        let row = cases.rng.below((words.len() / ROW_WORDS) as u64 + 1);
+        cases.add(&[room, n.into(), NOWHERE, 0, row], &words);
+    }
+    held_damaged(cases);
+    held_no_state(cases);
+}
+
+/// The number of met marks as it stands there, true or not; another row's, and
+/// other words, make no difference.
+fn held_damaged(cases: &mut Cases) {
+    let room = STATE_WORDS as u64;
+    for (words, n, value) in untrue() {
+        cases.add(&[room, n, word_at(1, HELD), value, 1], &words);
+    }
+    for value in [0, 2, 3, 1 << 32, (1 << 32) + 3, 1 << 63, u64::MAX] {
+        for row in [0, 1] {
+            cases.add(&[room, 24, word_at(1, HELD), value, row], P[0]);
+        }
+    }
+    for at in [1, 2, word_at(1, 0), word_at(1, WINDOW), word_at(2, HELD)] {
+        for row in [0, 1, 2] {
+            cases.add(&[room, 24, at, u64::MAX, row], P[0]);
+        }
+    }
+    // The last word of the room, for a table without a row 31 and one with it.
+    for rows in [31, 32] {
+        cases.add(&[room, 3, room - 1, 77, 31], &rows_of(rows));
+    }
+}
+
+/// Rooms that hold no state, and numbers of rows that no state has; a room with a
+/// number of rows and nothing else that was laid there.
+fn held_no_state(cases: &mut Cases) {
+    let room = STATE_WORDS as u64;
+    for length in STATE_ROOMS.into_iter().chain([2, 3, 578, 580, 609, 613]) {
+        for row in [0, 2] {
+            cases.add(&[length as u64, 3, NOWHERE, 0, row], P[0]);
+            cases.add(&[length as u64, 3, 0, 1, row], P[SOUND]);
+        }
+    }
+    for rows in [0, 1, 2, 3, 31, 32, 33, 1 << 32, (1 << 32) + 1, u64::MAX] {
+        for row in [0, 1, 2, 31] {
+            cases.add(&[room, 24, 0, rows, row], P[0]);
+            cases.add(&[room, 24, 0, rows, row], P[SOUND]);
+        }
     }
 }
 

@@ -7,7 +7,7 @@ use compare::ffi;
 use peer::answer::{refusal, Answer};
 use peer::counts::{counts_words, COUNT_WORDS};
 use peer::dispatch::{from_words, tick, tick_words, to_words, Row, State, CLOCK_END};
-use peer::dispatch::{HEAD_WORDS, SAVED_ROW_WORDS};
+use peer::dispatch::{HEAD_WORDS, HELD, SAVED_ROW_WORDS, WINDOW};
 use peer::pattern::{self, K_MAX};
 use peer::rng::Rng;
 use peer::table::ROWS_MAX;
@@ -21,7 +21,7 @@ const SINGLE: usize = 200;
 const END_ROW: [u32; 6] = [1, 5, 7, 6, 3, 5];
 
 /// States in the midst of a run.
-fn underway(rng: &mut Rng, rows: usize) -> Vec<Saved> {
+pub fn underway(rng: &mut Rng, rows: usize) -> Vec<Saved> {
     let mut states = begun(&busy_tables(rng, rows));
     for state in &mut states {
         ffi::run(state, TICKS);
@@ -99,7 +99,8 @@ pub fn counts_k_64(rng: &mut Rng) -> bool {
             let window = rng.bits();
             row[4] = rng.between(1, window.count_ones().into());
             row[5] = K_MAX.into();
-            row[11] = window;
+            row[WINDOW] = window;
+            row[HELD] = window.count_ones().into();
         }
     }
     timed_counts("counts_k_64", &states)
@@ -157,6 +158,7 @@ fn at_clocks_end() -> Saved {
         left: d - past,
         kind: (pattern::entry(m, k) >> (settled % k) & 1) as u32,
         window: (1 << k) - 1,
+        held: k,
         released: settled + 1,
         mm: mandatory,
         om: settled - mandatory,

@@ -6,7 +6,8 @@
 
 use peer::brute::spare::{by_sentence, met_less_m};
 use peer::counts::{counts_words, COUNT_WORDS};
-use peer::dispatch::{fresh_words, run_words, HEAD_WORDS, SAVED_ROW_WORDS, STATE_WORDS};
+use peer::dispatch::{fresh_words, run_words, HELD, WINDOW};
+use peer::dispatch::{HEAD_WORDS, SAVED_ROW_WORDS, STATE_WORDS};
 use peer::pattern::K_MAX;
 use peer::rng::Rng;
 use peer::table::{ROWS_MAX, ROW_WORDS};
@@ -29,10 +30,9 @@ const TICKS: u32 = 1_000;
 /// What each word of a room is beforehand.
 const BEFORE: u64 = 0xA5A5_A5A5_A5A5_A5A5;
 
-/// The words of a saved row that change.
+/// The words of a saved row that change, beside the window and its met marks.
 const M: usize = 4;
 const K: usize = 5;
-const WINDOW: usize = 11;
 
 /// The spare of a row among its counts.
 const SPARE: usize = COUNT_WORDS - 1;
@@ -79,6 +79,7 @@ impl Rows {
         self.words[row + M] = u64::from(marks.m);
         self.words[row + K] = u64::from(marks.k);
         self.words[row + WINDOW] = marks.window;
+        self.words[row + HELD] = marks.window.count_ones().into();
         self.filled += 1;
         if self.filled < ROWS_MAX {
             return Ok(());

@@ -1,9 +1,10 @@
-//! The whole state after every single tick.
+//! The whole state after every single tick, and the first program's numbers of met
+//! marks counted anew from its windows.
 
 use peer::gen::state;
 
 use super::fresh::begun;
-use super::{Both, Call, Counted};
+use super::{Both, Counted};
 use crate::course::{Compared, Course};
 use crate::draw::run_table;
 
@@ -26,7 +27,7 @@ pub fn from_fresh(course: &mut Course) -> Compared {
         let table = run_table(&mut course.rng);
         let mut both = begun(course, &table)?;
         for _ in 0..course.rng.between(TICKS.0, TICKS.1) {
-            both.call(course, Call::Tick)?;
+            both.tick(course)?;
         }
         counted.add(&both.peer);
     }
@@ -40,7 +41,7 @@ pub fn drawn(course: &mut Course) -> Compared {
         let words = state(&mut course.rng);
         let mut both = Both::new(&mut course.rng, &words);
         for _ in 0..course.rng.between(1, STATE_TICKS) {
-            both.call(course, Call::Tick)?;
+            both.tick(course)?;
         }
     }
     Ok(())
