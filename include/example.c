@@ -1,6 +1,6 @@
 /*
  * A music stand in small: read the task text, ask for the verdict, run a second of ticks as a timer interrupt would, look at the
- * counts; save the state on the way and go on from the saved words; meet a refusal.
+ * counts; save the state on the way and go on from the saved words; meet two refusals.
  *
  *     include/run
  */
@@ -12,6 +12,9 @@
 #include "galleypoppy.h"
 
 enum { SECOND = 1000, SAVED_AT = 650 };
+
+/* Words of a state that was saved when a row had no GP_HELD. */
+enum { EARLIER_WORDS = GP_STATE_WORDS - GP_ROWS_MAX };
 
 /* A tick is a millisecond. From the highest row down: pedal scan, tuner, screen, radio slot. */
 static const char stand_text[] =
@@ -78,7 +81,8 @@ static void show_counts(size_t rows)
         wanted("counts", gp_counts(state, GP_STATE_WORDS, row, count, GP_COUNT_WORDS));
         printf("  %s: released=%" PRIu64 " mm=%" PRIu64 " mx=%" PRIu64 " om=%" PRIu64 " ox=%" PRIu64, names[row],
                count[GP_COUNT_RELEASED], count[GP_COUNT_MM], count[GP_COUNT_MX], count[GP_COUNT_OM], count[GP_COUNT_OX]);
-        printf(" broken=%" PRIu64 " spare=%" PRIu64 "\n", count[GP_COUNT_BROKEN], count[GP_COUNT_SPARE]);
+        printf(" broken=%" PRIu64 " spare=%" PRIu64, count[GP_COUNT_BROKEN], count[GP_COUNT_SPARE]);
+        printf(" held=%" PRIu64 "\n", wanted("held", gp_held(state, GP_STATE_WORDS, row)));
     }
 }
 
@@ -91,6 +95,13 @@ static void restore(void)
     wanted("run", gp_run(saved, GP_STATE_WORDS, SECOND - SAVED_AT));
     int same = memcmp(saved, state, sizeof saved) == 0;
     printf("restored and run: ticks=%" PRIu64 ", %s\n", saved[GP_TIME], same ? "the same state" : "another state");
+}
+
+/* A state of an earlier version is known by its length, so its words are never taken for others. */
+static void show_earlier(void)
+{
+    struct gp_answer answer = gp_well(saved, EARLIER_WORDS);
+    printf("%d words, as many as an earlier state has: refused=%" PRIu64 "\n", EARLIER_WORDS, answer.refusal);
 }
 
 /* A heavier screen leaves the radio slot too little. The table stays a table, so it could be run; it is not admitted. */
@@ -111,6 +122,7 @@ int main(void)
     run_second(rows);
     show_counts(rows);
     restore();
+    show_earlier();
     show_refusal(rows);
     return EXIT_SUCCESS;
 }

@@ -3,7 +3,8 @@
  *
  * The functions of `crates/stand_c`, built into `target/staticlib/libstand_c.a` by `rt staticlib stand_c` for x86-64 Linux (the
  * System V calling convention, a 64-bit size_t). Each of them is proved to give the answer that document 01 names (spare: document 02,
- * 1/14), on every input, provided that the caller keeps to "What a caller owes" below and the compiler's back end is right.
+ * 1/14; the stored number of met marks: 2/14), on every input, provided that the caller keeps to "What a caller owes" below and the
+ * compiler's back end is right.
  *
  * What the functions do not do: allocate, keep anything between calls, read or write anything but the lent runs, stop or jump out.
  * They can be called at the same time on different runs. The archive has no writable data, and the only outside symbols it asks for
@@ -46,9 +47,9 @@ extern "C" {
 #define GP_TASK_WORDS 6
 #define GP_TABLE_WORDS (GP_ROWS_MAX * GP_TASK_WORDS)
 
-/* Words of a state: three, and 18 for each of 32 rows. */
+/* Words of a state: three, and 19 for each of 32 rows. */
 #define GP_HEAD_WORDS 3
-#define GP_ROW_WORDS 18
+#define GP_ROW_WORDS 19
 #define GP_STATE_WORDS (GP_HEAD_WORDS + GP_ROWS_MAX * GP_ROW_WORDS)
 
 /* Words that gp_counts fills. */
@@ -92,7 +93,8 @@ struct gp_answer {
  * the order of priority, row 0 highest.
  *
  * A state: GP_STATE_WORDS 64-bit words. It is all there is to a running table: copy the words to save it, copy them back to restore
- * it. First these three:
+ * it, and offer them with the length that was saved. A state that was saved before 2/14 has 579 words, none of them GP_HELD: it is
+ * refused with 14 by its length, never misread. First these three:
  */
 enum gp_head {
     GP_ROWS = 0,  /* number of rows, 1 to 32 */
@@ -100,7 +102,7 @@ enum gp_head {
     GP_IDLE = 2   /* idle ticks among them */
 };
 
-/* Then 18 words a row, in this order. Rows past the last are all 0. */
+/* Then 19 words a row, in this order. Rows past the last are all 0. */
 enum gp_field {
     GP_ID = 0,
     GP_C = 1,
@@ -119,7 +121,8 @@ enum gp_field {
     GP_MX = 14,        /* mandatory missed */
     GP_OM = 15,        /* optional met */
     GP_OX = 16,        /* optional missed */
-    GP_BROKEN = 17     /* settlings after which the window held fewer than m met marks */
+    GP_BROKEN = 17,    /* settlings after which the window held fewer than m met marks */
+    GP_HELD = 18       /* met marks in the window: 0 to k, the number of its set bits */
 };
 
 /* The index of a row's word among the words of a state: state[GP_WORD_AT(2, GP_WINDOW)]. */
@@ -134,7 +137,7 @@ enum gp_count {
     GP_COUNT_OX = 4,
     GP_COUNT_BROKEN = 5,
     GP_COUNT_SPARE = 6  /* misses left: so many further misses in a row leave the window at least m met marks, and one more does not;
-                           0 also where it holds fewer than m already: the set bits of GP_WINDOW, counted, and GP_M tell */
+                           0 also where it holds fewer than m already: then gp_held, or GP_HELD, is below GP_M */
 };
 
 /*
@@ -169,8 +172,8 @@ struct gp_answer gp_verdict(const uint32_t *words, size_t words_length, uint32_t
 struct gp_answer gp_fresh(const uint32_t *table, size_t table_length, uint64_t *room, size_t room_length);
 
 /*
- * Whether words are a well-formed state: the length is GP_STATE_WORDS, and the words are as document 01 asks. Value: 0.
- * A state that gp_fresh laid and only gp_tick and gp_run altered is well formed.
+ * Whether words are a well-formed state: the length is GP_STATE_WORDS, the words are as document 01 asks, and GP_HELD of each row is
+ * the number of met marks in its window. Value: 0. A state that gp_fresh laid and only gp_tick and gp_run altered is well formed.
  * Refusals: 14.
  */
 struct gp_answer gp_well(const uint64_t *state, size_t state_length);
@@ -194,6 +197,15 @@ struct gp_answer gp_run(uint64_t *state, size_t state_length, uint32_t n);
  * Refusals: 14, 13.
  */
 struct gp_answer gp_counts(const uint64_t *state, size_t state_length, uint32_t row, uint64_t *room, size_t room_length);
+
+/*
+ * How many met marks one row of a state has: what a screen asks in every frame. Value: the row's GP_HELD, as it is stored; 0 where the
+ * state has no such row. It costs the same however many rows there are, because it does not go through them; so it does not look
+ * whether the state is well formed. On a well-formed state the value is the number of met marks in the row's window; of words that
+ * come from elsewhere ask gp_well first.
+ * Refusals: 14, only where the length is not GP_STATE_WORDS or the number of rows is not 1 to 32.
+ */
+struct gp_answer gp_held(const uint64_t *state, size_t state_length, uint32_t row);
 
 /*
  * Reads a task text. Value: the number of rows; the room then holds the table, six words a row, from the start.

@@ -1,11 +1,14 @@
 //! A music stand in small: read the task text, ask for the verdict, run a second of ticks as a timer interrupt would, look at the
-//! counts; save the state on the way and go on from the saved words; meet a refusal. It prints what `include/example.c` prints.
+//! counts; save the state on the way and go on from the saved words; meet two refusals. It prints what `include/example.c` prints.
 
 use galleypoppy::{read, verdict, write, Field, Refusal, State};
-use galleypoppy::{ROWS_MAX, TABLE_WORDS, TASK_WORDS, TEXT_BYTES};
+use galleypoppy::{ROWS_MAX, STATE_WORDS, TABLE_WORDS, TASK_WORDS, TEXT_BYTES};
 
 const SECOND: u32 = 1000;
 const SAVED_AT: u32 = 650;
+
+/// Words of a state that was saved when a row had no [`Field::Held`].
+const EARLIER_WORDS: usize = STATE_WORDS - ROWS_MAX;
 
 /// A tick is a millisecond. From the highest row down: pedal scan, tuner, screen, radio slot.
 const TEXT: &[u8] = b"rows=4\n\
@@ -56,11 +59,11 @@ fn run_second(table: &[u32]) -> Result<(State, State), Refusal> {
 
 fn show_counts(state: &State) {
     for (row, name) in NAMES.iter().enumerate() {
-        let Some(count) = state.counts(row) else {
+        let (Some(count), Some(held)) = (state.counts(row), state.held(row)) else {
             continue;
         };
         println!(
-            "  {name}: released={} mm={} mx={} om={} ox={} broken={} spare={}",
+            "  {name}: released={} mm={} mx={} om={} ox={} broken={} spare={} held={held}",
             count.released, count.mm, count.mx, count.om, count.ox, count.broken, count.spare
         );
     }
@@ -87,6 +90,15 @@ fn restore(words: &[u64], state: &State) -> Result<(), Refusal> {
     Ok(())
 }
 
+/// A state of an earlier version is known by its length, so its words are never taken for others.
+fn show_earlier(words: &[u64]) {
+    print!("{EARLIER_WORDS} words, as many as an earlier state has: ");
+    match State::restore(&words[..EARLIER_WORDS]) {
+        Err(refusal) => println!("refused={}", refusal.number()),
+        other => println!("{other:?}"),
+    }
+}
+
 /// A heavier screen leaves the radio slot too little. The table stays a table, so it could be run; it is not admitted.
 fn show_refusal(table: &mut [u32]) {
     table[2 * TASK_WORDS + 1] = 20;
@@ -109,6 +121,7 @@ fn main() -> Result<(), Refusal> {
     let (state, saved) = run_second(table)?;
     show_counts(&state);
     restore(saved.words(), &state)?;
+    show_earlier(saved.words());
     let words = table.len();
     show_refusal(&mut room[..words]);
     Ok(())

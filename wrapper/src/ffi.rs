@@ -50,6 +50,7 @@ unsafe extern "C" {
         room: *mut u64,
         room_length: usize,
     ) -> Answer;
+    fn gp_held(state: *const u64, state_length: usize, row: u32) -> Answer;
     fn gp_read(text: *const u8, text_length: usize, room: *mut u32, room_length: usize) -> Answer;
     fn gp_write(
         words: *const u32,
@@ -115,6 +116,11 @@ pub fn counts(state: &[u64], row: u32, room: &mut [u64]) -> Result<u64, Refusal>
         )
     }
     .taken()
+}
+
+pub fn held(state: &[u64], row: u32) -> Result<u64, Refusal> {
+    // SAFETY: the state is a slice, borrowed for the call.
+    unsafe { gp_held(state.as_ptr(), state.len(), row) }.taken()
 }
 
 pub fn read(text: &[u8], room: &mut [u32]) -> Result<u64, Refusal> {

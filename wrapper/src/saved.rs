@@ -6,9 +6,11 @@ use crate::{ffi, Refusal, ROWS_MAX};
 pub(crate) const HEAD_WORDS: usize = 3;
 
 /// Words of a row of a state, in the order of [`Field`](crate::Field).
-pub(crate) const ROW_WORDS: usize = 18;
+pub(crate) const ROW_WORDS: usize = 19;
 
-/// Words of a state: the number of rows, the time, the idle count, then 18 words for each of 32 rows, 0 where there is no row.
+/// Words of a state: the number of rows, the time, the idle count, then 19 words for each of 32 rows, 0 where there is no row.
+///
+/// A state that was saved before 2/14 has 579 words, none of them the number of met marks. It is refused with 14 by its length.
 pub const STATE_WORDS: usize = HEAD_WORDS + ROWS_MAX * ROW_WORDS;
 
 /// Words of a row's counts, in the order of the fields of [`Counts`].
@@ -30,7 +32,7 @@ pub struct Counts {
     /// Settlings after which the window held fewer than m met marks.
     pub broken: u64,
     /// Misses left: so many further misses in a row leave the window at least m met marks, and one more does not. 0 also where it
-    /// holds fewer than m already.
+    /// holds fewer than m already: then [`held`] is below m.
     pub spare: u64,
 }
 
@@ -58,7 +60,7 @@ pub fn fresh(table: &[u32], room: &mut [u64]) -> Result<usize, Refusal> {
     ffi::fresh(table, room).map(|rows| rows as usize)
 }
 
-/// Whether words are a well-formed state, [`STATE_WORDS`] in number.
+/// Whether words are a well-formed state, [`STATE_WORDS`] in number, each row's number of met marks the true one.
 ///
 /// # Errors
 ///
@@ -94,4 +96,31 @@ pub fn counts(state: &[u64], row: u32) -> Result<Counts, Refusal> {
     let mut room = [0; COUNT_WORDS];
     ffi::counts(state, row, &mut room)?;
     Ok(Counts::of(room))
+}
+
+/// How many met marks one row of a state has, as it is stored; 0 where it has no such row.
+///
+/// It costs the same however many rows there are, because it does not go through them; so it does not look whether the state is
+/// well formed. On a well-formed state the answer is the number of met marks in the row's window; of words that come from elsewhere
+/// ask [`well`] first, or keep them in a [`State`](crate::State).
+///
+/// ```
+/// use galleypoppy::{fresh, held, run, Refusal, STATE_WORDS};
+///
+/// # fn main() -> Result<(), Refusal> {
+/// // Two ticks of work, due after one: every job is missed.
+/// let mut state = [0; STATE_WORDS];
+/// fresh(&[7, 2, 4, 1, 1, 3], &mut state)?;
+/// assert_eq!(held(&state, 0), Ok(3));
+/// run(&mut state, 5)?;
+/// assert_eq!(held(&state, 0), Ok(1));
+/// # Ok(())
+/// # }
+/// ```
+///
+/// # Errors
+///
+/// Refusal 14, only where the words are not [`STATE_WORDS`] in number or the number of rows is not 1 to 32.
+pub fn held(state: &[u64], row: u32) -> Result<u64, Refusal> {
+    ffi::held(state, row)
 }

@@ -1,7 +1,7 @@
 //! A state that keeps its own words.
 
 use crate::saved::{HEAD_WORDS, ROW_WORDS};
-use crate::{counts, fresh, run, tick, well, Counts, Refusal, STATE_WORDS};
+use crate::{counts, fresh, held, run, tick, well, Counts, Refusal, STATE_WORDS};
 
 /// The words of a row of a state, in their order.
 #[derive(Clone, Copy, Debug, PartialEq, Eq, Hash)]
@@ -42,6 +42,8 @@ pub enum Field {
     Ox,
     /// Settlings after which the window held fewer than m met marks.
     Broken,
+    /// Met marks in the window.
+    Held,
 }
 
 /// A running table. It comes from [`State::fresh`] or [`State::restore`] alone, so its words are a well-formed state at all times.
@@ -78,7 +80,7 @@ impl State {
         Ok(State { words })
     }
 
-    /// The state that saved words say.
+    /// The state that saved words say. Words of an earlier version, 579 in number, are refused.
     ///
     /// # Errors
     ///
@@ -126,6 +128,17 @@ impl State {
     pub fn counts(&self, row: usize) -> Option<Counts> {
         if row < self.rows() {
             counts(&self.words, row as u32).ok()
+        } else {
+            None
+        }
+    }
+
+    /// How many met marks a row's window holds, `None` where there is no such row. The words are a well-formed state, so the number
+    /// stored is the true one.
+    #[must_use]
+    pub fn held(&self, row: usize) -> Option<u64> {
+        if row < self.rows() {
+            held(&self.words, row as u32).ok()
         } else {
             None
         }

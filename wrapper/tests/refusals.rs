@@ -1,7 +1,7 @@
 //! Each refusal of document 01 through the function that gives it, the order where several apply, and what a refusal leaves alone.
 
-use galleypoppy::{check, counts, fresh, job, read, report, run, tick, verdict, well, word, write};
-use galleypoppy::{Refusal, State, STATE_WORDS};
+use galleypoppy::{check, counts, fresh, held, job, read, report, run, tick, verdict};
+use galleypoppy::{well, word, write, Refusal, State, STATE_WORDS};
 
 const ROW: [u32; 6] = [5, 1, 10, 10, 1, 2];
 
@@ -75,6 +75,23 @@ fn state() -> Result<(), Refusal> {
     let mut longer = words.to_vec();
     longer.push(0);
     assert_eq!(run(&mut longer, 0), Err(Refusal::State));
+    assert_eq!(held(&longer, 0), Err(Refusal::State));
+    Ok(())
+}
+
+/// The frame question asks for the length and a number of rows, and for nothing else.
+#[test]
+fn state_of_the_frame_question() -> Result<(), Refusal> {
+    let mut words = *State::fresh(&ROW)?.words();
+    assert_eq!(held(&[], 0), Err(Refusal::State));
+    assert_eq!(held(&words[1..], 0), Err(Refusal::State));
+    for rows in [0, 33, u64::from(u32::MAX) + 2, u64::MAX] {
+        words[0] = rows;
+        assert_eq!(held(&words, 0), Err(Refusal::State));
+    }
+    words[0] = 32;
+    assert_eq!(well(&words), Err(Refusal::State));
+    assert_eq!((held(&words, 0), held(&words, 31)), (Ok(2), Ok(0)));
     Ok(())
 }
 

@@ -1,19 +1,38 @@
 //! A state by value and its words lent: the same ticks, saved and restored.
 
-use galleypoppy::{counts, fresh, run, tick, Counts, Field, Refusal, State, STATE_WORDS};
+use galleypoppy::{counts, fresh, held, run, tick, well};
+use galleypoppy::{Counts, Field, Refusal, State, STATE_WORDS};
 
 /// Document 01's table.
 const TABLE: [u32; 12] = [11, 2, 4, 4, 1, 2, 12, 4, 6, 6, 2, 3];
+
+/// The music stand: marks come and go in the windows of its tuner and its radio slot.
+const STAND: [u32; 24] = [
+    1, 1, 5, 2, 1, 1, 2, 6, 20, 20, 2, 3, 3, 14, 40, 40, 3, 5, 4, 20, 100, 100, 1, 2,
+];
+
+/// Words of a row of a state, and where its window and the number of its met marks stand among them.
+const ROW: usize = 19;
+const WINDOW: usize = 11;
+const HELD: usize = 18;
+
+/// The met marks of a row's window, counted.
+fn counted(state: &State, row: usize) -> Option<u64> {
+    let window = state.word(row, Field::Window)?;
+    Some(u64::from(window.count_ones()))
+}
 
 #[test]
 fn fresh_as_document_01_says() -> Result<(), Refusal> {
     let state = State::fresh(&TABLE)?;
     assert_eq!((state.rows(), state.time(), state.idle()), (2, 0, 0));
-    let row = [12, 4, 6, 6, 2, 3, 0, 0, 0, 0, 0, 0b111, 0, 0, 0, 0, 0, 0];
-    assert_eq!(state.words()[3 + 18..3 + 2 * 18], row);
-    assert!(state.words()[3 + 2 * 18..].iter().all(|&word| word == 0));
+    let row = [12, 4, 6, 6, 2, 3, 0, 0, 0, 0, 0, 0b111, 0, 0, 0, 0, 0, 0, 3];
+    assert_eq!(STATE_WORDS, 611);
+    assert_eq!(state.words()[3 + ROW..3 + 2 * ROW], row);
+    assert!(state.words()[3 + 2 * ROW..].iter().all(|&word| word == 0));
     assert_eq!(state.word(1, Field::Window), Some(0b111));
     assert_eq!(state.word(1, Field::Broken), Some(0));
+    assert_eq!(state.word(1, Field::Held), Some(3));
     assert_eq!(state.word(2, Field::Id), None);
     Ok(())
 }
@@ -63,6 +82,137 @@ fn spare_is_the_misses_left() -> Result<(), Refusal> {
     assert_eq!(state.counts(0).map(|row| row.spare), Some(0));
     state.run(3)?;
     assert_eq!(state.counts(0).map(|row| row.spare), Some(2));
+    Ok(())
+}
+
+#[test]
+fn held_is_k_when_fresh() -> Result<(), Refusal> {
+    let ks = [1, 2, 3, 5, 63, 64];
+    let table: Vec<u32> = (1..)
+        .zip(ks)
+        .flat_map(|(id, k)| [id, 1, 9, 9, 1, k])
+        .collect();
+    let state = State::fresh(&table)?;
+    for (row, k) in ks.into_iter().enumerate() {
+        assert_eq!(state.held(row), Some(u64::from(k)));
+    }
+    Ok(())
+}
+
+/// Every job of the row is missed, at ticks 1, 5, 9 and so on: its three met marks go one by one, and then there are none to go.
+#[test]
+fn held_falls_with_each_miss() -> Result<(), Refusal> {
+    let mut state = State::fresh(&[1, 2, 4, 1, 1, 3])?;
+    for marks in [3, 2, 1, 0, 0] {
+        assert_eq!(state.held(0), Some(marks));
+        state.run(if state.time() == 0 { 1 } else { 4 })?;
+    }
+    Ok(())
+}
+
+/// After every tick, and after all of them in one run. The tuner's number falls and rises on the way.
+#[test]
+fn held_is_the_met_marks_of_the_window() -> Result<(), Refusal> {
+    let mut state = State::fresh(&STAND)?;
+    let mut tuner = vec![3];
+    while state.time() < 1000 {
+        state.tick()?;
+        for row in 0..4 {
+            assert_eq!(state.held(row), counted(&state, row));
+            assert_eq!(state.held(row), state.word(row, Field::Held));
+        }
+        tuner.extend(state.held(1));
+    }
+    tuner.dedup();
+    assert!(tuner.starts_with(&[3, 2, 3, 2, 3]));
+    let mut at_once = State::fresh(&STAND)?;
+    at_once.run(1000)?;
+    assert_eq!(
+        [0, 1, 2, 3].map(|row| at_once.held(row)),
+        [1, 3, 5, 1].map(Some)
+    );
+    Ok(())
+}
+
+#[test]
+fn held_of_no_row_is_0() -> Result<(), Refusal> {
+    let state = State::fresh(&TABLE)?;
+    for row in [2, 31, 32, u32::MAX] {
+        assert_eq!(held(state.words(), row), Ok(0));
+        assert_eq!(state.held(row as usize), None);
+    }
+    Ok(())
+}
+
+/// The number is handed back as it is stored, whatever the other words are.
+#[test]
+fn held_does_not_look_at_the_rows() {
+    let mut words = [7; STATE_WORDS];
+    words[3 + HELD] = u64::MAX;
+    assert_eq!(well(&words), Err(Refusal::State));
+    assert_eq!((held(&words, 0), held(&words, 6)), (Ok(u64::MAX), Ok(7)));
+    assert_eq!(held(&words, 7), Ok(0));
+}
+
+/// One more or one less than the window's met marks, in any row, is no well-formed state; nor is another window beside the same
+/// number. With its own number that window is taken.
+#[test]
+fn a_wrong_held_is_refused() -> Result<(), Refusal> {
+    let mut state = State::fresh(&STAND)?;
+    for _ in 0..3 {
+        for row in 0..state.rows() {
+            let at = 3 + row * ROW;
+            let number = state.words()[at + HELD];
+            for wrong in [number + 1, number - 1] {
+                let mut words = *state.words();
+                words[at + HELD] = wrong;
+                refused_as_a_state(&words);
+                assert_eq!(held(&words, row as u32), Ok(wrong));
+            }
+            let mut words = *state.words();
+            words[at + WINDOW] ^= 1;
+            refused_as_a_state(&words);
+            words[at + HELD] = u64::from(words[at + WINDOW].count_ones());
+            assert_eq!(
+                State::restore(&words).map(|state| *state.words()),
+                Ok(words)
+            );
+        }
+        state.run(333)?;
+    }
+    // A row past the last has no met marks either.
+    let mut words = *State::fresh(&TABLE)?.words();
+    words[3 + 2 * ROW + HELD] = 1;
+    refused_as_a_state(&words);
+    Ok(())
+}
+
+/// Refusal 14 by every function that looks whether a state is well formed; what was lent stays as it was.
+fn refused_as_a_state(words: &[u64]) {
+    let mut lent = words.to_vec();
+    assert_eq!(State::restore(words), Err(Refusal::State));
+    assert_eq!(well(words), Err(Refusal::State));
+    assert_eq!(counts(words, 0), Err(Refusal::State));
+    assert_eq!(tick(&mut lent), Err(Refusal::State));
+    assert_eq!(run(&mut lent, 0), Err(Refusal::State));
+    assert_eq!(lent, words);
+}
+
+/// The words as they were saved before a row had its number of met marks: 18 a row.
+#[test]
+fn an_earlier_state_is_refused() -> Result<(), Refusal> {
+    let mut state = State::fresh(&STAND)?;
+    for _ in 0..3 {
+        let (head, rows) = state.words().split_at(3);
+        let mut earlier = head.to_vec();
+        for row in rows.chunks(ROW) {
+            earlier.extend_from_slice(&row[..HELD]);
+        }
+        assert_eq!(earlier.len(), 579);
+        refused_as_a_state(&earlier);
+        assert_eq!(held(&earlier, 0), Err(Refusal::State));
+        state.run(333)?;
+    }
     Ok(())
 }
 
