@@ -1,6 +1,6 @@
 -- Runs over words: a run of 0, a run in pieces, and a run from the fresh words of an accepted table, which is made up to the clock's end and leaves
 -- the words of the state after so many ticks.
-use mathlib.Core.Bool.{true, false}
+use mathlib.Core.Bool.{true}
 use mathlib.Core.List.{List, [], append-nil}
 use mathlib.Core.Path.{_≡_, sym, ap, _∙_}
 use Prim.Native.Nat.{ℕ, _+_, _≤_}
@@ -14,7 +14,7 @@ use Rattle.law.specs.State.{stateOf, laid, savedWell, freshWords, runAnswer, ru
 use Rattle.law.proofs.Table.{checked-accepted}
 use Rattle.law.proofs.Fresh.{fresh-sound, laid-saved}
 use Rattle.law.proofs.Laid.{state-laid}
-use Rattle.law.proofs.Tests.{Known, passes, fails, known}
+use Rattle.law.proofs.Tests.{passes, fails, known}
 use Rattle.law.proofs.Ticks.{run-time, run-sound, run-add}
 use Rattle.tick.proofs.Chain.{time-word}
 use Rattle.dispatch.proofs.Saved.{saved-held, fresh-laid, run-ill, run-past, run-done}

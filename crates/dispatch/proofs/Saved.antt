@@ -124,36 +124,36 @@ module _ (words : List ℕ) (i : ℕ) (room : List ℕ) where
 
 -- the frame question by its cases
 module _ (words : List ℕ) (i : ℕ) where
-  pub held-length : (length words ≡ 611 → ⊥) → heldAnswer words i ≡ refused 14 []
+  pub frame-length : (length words ≡ 611 → ⊥) → heldAnswer words i ≡ refused 14 []
   unfolding heldAnswer
-  held-length h = rw (ne-eqb (length words) 611 h)
+  frame-length h = rw (ne-eqb (length words) 611 h)
 
   module _ (long : length words ≡ 611) where
-    pub held-rows : within 1 32 (getD words 0 0) ≡ false → heldAnswer words i ≡ refused 14 []
+    pub frame-rows : within 1 32 (getD words 0 0) ≡ false → heldAnswer words i ≡ refused 14 []
     unfolding heldAnswer
-    held-rows e = rw (eq-eqb (length words) 611 long, e)
+    frame-rows e = rw (eq-eqb (length words) 611 long, e)
 
     module _ (rows : within 1 32 (getD words 0 0) ≡ true) where
-      pub held-told : heldAnswer words i ≡ accepted (getD (stateOf words .rows) i noRow .tally .held ∷ [])
+      pub frame-told : heldAnswer words i ≡ accepted (getD (stateOf words .rows) i noRow .tally .held ∷ [])
       unfolding heldAnswer
-      held-told = rw (eq-eqb (length words) 611 long, rows)
+      frame-told = rw (eq-eqb (length words) 611 long, rows)
 
-      pub held-none : getD words 0 0 ≤ i → heldAnswer words i ≡ accepted (0 ∷ [])
-      held-none h =
-          held-told
+      pub frame-none : getD words 0 0 ≤ i → heldAnswer words i ≡ accepted (0 ∷ [])
+      frame-none h =
+          frame-told
           ∙ ap (λ (z : Row). accepted (z .tally .held ∷ [])) (List·getD-eq-default (stateOf words .rows) noRow (omega (arith, rows-are words)))
 
-      pub held-row : i < getD words 0 0 → heldAnswer words i ≡ accepted (getD words (i * 19 + (3 + 18)) 0 ∷ [])
+      pub frame-row : i < getD words 0 0 → heldAnswer words i ≡ accepted (getD words (i * 19 + (3 + 18)) 0 ∷ [])
       unfolding rowOf
-      held-row h = held-told ∙ ap (λ (z : Row). accepted (z .tally .held ∷ [])) (sym (row-read words i (omega (arith, rows-are words))))
+      frame-row h = frame-told ∙ ap (λ (z : Row). accepted (z .tally .held ∷ [])) (sym (row-read words i (omega (arith, rows-are words))))
 
 -- of a well-formed state it is what the row's tally says
-pub held-saved : (words : List ℕ) (i : ℕ) → savedWell words ≡ true → heldAnswer words i ≡ accepted (getD (stateOf words .rows) i noRow .tally .held ∷ [])
-held-saved words i e =
+pub frame-saved : (words : List ℕ) (i : ℕ) → savedWell words ≡ true → heldAnswer words i ≡ accepted (getD (stateOf words .rows) i noRow .tally .held ∷ [])
+frame-saved words i e =
     let h = saved-held words e in
     let low : 1 ≤ getD words 0 0 = omega (arith, h .sound .table .rows-low, table-rows words) in
     let high : getD words 0 0 ≤ 32 = omega (arith, h .laid .few, rows-are words) in
-    held-told words i (words-long (h .laid)) (within-is 1 32 (getD words 0 0) low high)
+    frame-told words i (words-long (h .laid)) (within-is 1 32 (getD words 0 0) low high)
 
 -- a fresh state by its cases
 module _ (table room : List ℕ) where

@@ -13,8 +13,8 @@ pub enum Marks {
     Refused(Refusal),
 }
 
-// The number that is stored for row i, its word 18; 0 where there is no such row. It is read in every frame, so no row is gone through, and a state is
-// refused only where its number of words or of rows shows that it is none.
+// The number that is stored for row i, its word 18; 0 where there is no such row. It is read in every frame, so no row is gone through,
+// and words are refused only where their number or the number of rows shows that they are no state.
 pub fn held_words(words: &[u64], i: u32) -> Marks
     ensures { λ r. ⌜ marksShown r ≡ heldAnswer (now (words .entry)) i ⌝ }
 {

@@ -1,4 +1,4 @@
-// Whether words that a caller offers are a well-formed state: the tests of document 01, and no other.
+// Whether words that a caller offers are a well-formed state: the tests of document 01 and of document 02, 2/14, and no other.
 ghost use mathlib.Core.Path.{_≡_};
 ghost use Prim.Native.Nat.{_≤_, _<_, _+_, _*_, _^_};
 ghost use lib.Dec.{eqb, ltb};
@@ -61,7 +61,8 @@ fn core_well(r: Row) -> bool
     job_well(r)
 }
 
-// The counts agree, the window fits, and its met marks are as many as is said. No settled count is above the released one, so their sum does not pass 64 bits.
+// The counts agree, the window fits, and its met marks are as many as is said. No settled count is above the released one, so their sum
+// does not pass 64 bits.
 fn tally_well(r: Row, time: u64) -> bool
     requires { ⌜ (time ≤ clockEnd) × (InRange (r .task .m) (r .task .k)) ⌝ }
     ensures { λ b. ⌜ b ≡ tallyWell time (rowSaid r .core) (rowSaid r .tally) ⌝ }
@@ -153,18 +154,17 @@ fn rows_well(words: &[u64], rows: usize, time: u64) -> bool
     true
 }
 
-// Every word from a place on is 0.
+// Every word from a place on is 0. They are put together and looked at once: without a way out of the loop, several words go in one step.
 fn is_clear(words: &[u64], from: usize) -> bool
     ensures { λ r. ⌜ r ≡ every (λ w. eqb w 0) (drop from (now (words .entry))) ⌝ }
 {
+    let mut any = 0;
     let mut i = from;
     while i < words.len() {
-        if words[i] != 0 {
-            return false;
-        }
+        any = any | words[i];
         i += 1;
     }
-    true
+    any == 0
 }
 
 // Whether words are a well-formed state: their number, the table, the clock, each row, and nothing after the last row.

@@ -143,6 +143,10 @@ module _ {A : Type 0} (p : A → Bool) (l : List A) (d : A) where
   unfolding every
   every-fail i h e = rw (drop-cons l i d h, e)
 
+  pub every-next : (i : ℕ) → i < length l → every p (drop i l) ≡ both (p (getD l i d)) (every p (drop (i + 1) l))
+  unfolding every
+  every-next i h = rw (drop-cons l i d h, add-one)
+
   pub every-end : (i : ℕ) → length l ≤ i → every p (drop i l) ≡ true
   unfolding every
   every-end i h = rw (drop-of-length-le l h)

@@ -44,7 +44,7 @@ unfoldable pub tableWell : List Task → Bool
 tableWell tasks = both (within 1 32 (length tasks)) (eqb (faulty tasks) (length tasks))
 
 -- "A state offered by a caller is well formed when its table is; time is at most the clock's end; idle is at most the time; for each row ..".
--- "Nothing else is asked"
+-- "Nothing else is asked" (but for document 02, 2/14: see `tallyWell`)
 unfoldable pub stateWell : State → Bool
 stateWell s =
     both (tableWell (tasksOf (s .rows)))
@@ -180,8 +180,8 @@ unfoldable pub countsRoom : List ℕ → ℕ → List ℕ → List ℕ
 countsRoom words i room =
     lent (countsAnswer words (length room)) (countsOf (getD (stateOf words .rows) i noRow) ++ drop countWords room) room
 
--- Document 02, 2/14: "The screen asks for it in every frame". The number of met marks of row i as it is stored, and 0 where there is no row i. A frame
--- has no time to go through the rows, so 14 covers here what is seen without: the number of words, and the number of rows
+-- Document 02, 2/14: "The screen asks for it in every frame": the number of met marks of row i as it is stored, 0 where there is no row i.
+-- A frame has no time to go through the rows, so 14 covers here only what is seen without: the number of words, the number of rows
 unfoldable pub heldAnswer : List ℕ → ℕ → Answer
 heldAnswer words i =
     orRefused (both (eqb (length words) stateWords) (within 1 32 (getD words 0 0))) (refused 14 [])

@@ -38,8 +38,8 @@ pub record State : Type 0 where
   pub idle : ℕ
   pub rows : List Row
 
--- "Fresh: time 0, idle 0, wait 0, place 0, nothing live, counts 0, window of k met marks standing for jobs before the first"; so it
--- holds k
+-- "Fresh: time 0, idle 0, wait 0, place 0, nothing live, counts 0, window of k met marks standing for jobs before the first"; so its
+-- number of met marks is k
 abbrev pub freshCore : Task → Core
 freshCore r = record { task = r; wait = 0; place = 0; work = 0; left = 0; kind = 0 }
 

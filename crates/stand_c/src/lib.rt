@@ -199,8 +199,8 @@ pub extern "C" fn gp_counts(state: &[u64], row: u32, room: &mut [u64]) -> Answer
     ran(dispatch::counts::counts_words(state, row, room))
 }
 
-// The frame question: the number of met marks of one row of a saved state, as it is stored; 0 where there is no such row. Of the state it looks at the
-// number of words and of rows alone.
+// The frame question: the number of met marks of one row of a saved state, as it is stored; 0 where there is no such row. It is refused
+// only by the number of words or of rows: whether the state is well formed is not looked at.
 #[no_mangle]
 pub extern "C" fn gp_held(state: &[u64], row: u32) -> Answer
     ensures { λ a. ⌜ a ≡ numbered (heldAnswer (now (state .entry)) row) ⌝ }

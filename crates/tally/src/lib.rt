@@ -48,7 +48,8 @@ fn one_if(kind: u64, of: u64, mark: u64, is: u64) -> u64
     }
 }
 
-// The met marks of a window after one more mark: the mark that comes in is put to them, and the mark that is cut, bit k - 1, is taken off.
+// The number of met marks after one more mark: the mark that comes in is added, and the mark that is cut, bit k - 1, is taken off. In
+// this order the difference is never below 0.
 fn amend(held: u64, window: u64, mark: u64, k: u64) -> u64
     requires { ⌜ (1 ≤ k) × (k ≤ 64) × (mark ≤ 1) × (held ≡ marks k window) ⌝ }
     ensures { λ r. ⌜ r ≡ marks k (shifted k window mark) ⌝ }
