@@ -54,7 +54,8 @@ fn amend(held: u64, window: u64, mark: u64, k: u64) -> u64
     requires { ⌜ (1 ≤ k) × (k ≤ 64) × (mark ≤ 1) × (held ≡ marks k window) ⌝ }
     ensures { λ r. ⌜ r ≡ marks k (shifted k window mark) ⌝ }
 {
-    held + mark - (window >> (k - 1) & 1)
+    let cut = window >> (k - 1) & 1;
+    held + mark - cut
 }
 
 // 1 where fewer than m met marks are held, else 0.

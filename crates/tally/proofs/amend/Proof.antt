@@ -8,17 +8,17 @@ use borrow.Author.Needs.{needs}
 use Rattle.tally.proofs.amend.Statement.{statement}
 use Rattle.tally.proofs.amend.Tie as tie
 
+sub-cut : tie.Need-sub-cut
+sub-cut c = search needs
+
+shr-cut : tie.Need-shr-cut
+shr-cut c = search needs
+
 add-result : tie.Need-add-result
 add-result c = omega (arith, c .pre .3, marks-most (c .args .k) (c .args .window))
 
 sub-result : tie.Need-sub-result
-sub-result c = search needs
-
-shr-result : tie.Need-shr-result
-shr-result c = search needs
-
-sub-result-2 : tie.Need-sub-result-2
-sub-result-2 c = omega (arith, c .pre .3, marks-oldest (c .args .k) (c .args .window) (c .pre .0))
+sub-result c = omega (arith, c .pre .3, marks-oldest (c .args .k) (c .args .window) (c .pre .0))
 
 returns : tie.Need-returns
 returns c =
@@ -27,4 +27,4 @@ returns c =
     ∙ marks-amended (a .k) (a .window) (a .mark) (c .pre .0) (omega (arith, c .pre .2))
 
 pub amend-spec : {M : Type 1} → statement M
-amend-spec = tie.close (tie.spec add-result sub-result shr-result sub-result-2 returns)
+amend-spec = tie.close (tie.spec sub-cut shr-cut add-result sub-result returns)
