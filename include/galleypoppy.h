@@ -10,8 +10,8 @@
  * They can be called at the same time on different runs. The archive has no writable data, and the only outside symbols it asks for
  * are memcpy and memset.
  *
- * Stack, measured at 32 rows: gp_job, gp_word, gp_tick and gp_run lay the pattern book there, 17,088 bytes in all; gp_report also
- * holds a table, a state and what it prints, 28,000 bytes; gp_write 1,536, gp_read 1,232, gp_verdict 624, the others under 150.
+ * Stack, measured at 32 rows: gp_job, gp_word, gp_tick and gp_run lay the pattern book there, 17,112 bytes in all; gp_report also
+ * holds a table, a state and what it prints, 28,296 bytes; gp_write 1,536, gp_read 1,232, gp_verdict 624, the others under 150.
  *
  * Answers. Every function hands back two numbers. Where `refusal` is 0, the call was accepted and `value` is its answer. Otherwise
  * `refusal` is a number of document 01 (enum gp_refusal), and `value` is the row or the place that goes with it, 0 where there is
@@ -94,7 +94,8 @@ struct gp_answer {
  *
  * A state: GP_STATE_WORDS 64-bit words. It is all there is to a running table: copy the words to save it, copy them back to restore
  * it, and offer them with the length that was saved. A state that was saved before 2/14 has 579 words, none of them GP_HELD: it is
- * refused with 14 by its length, never misread. First these three:
+ * refused with 14 by its length, never misread. Do not lengthen it: padded to GP_STATE_WORDS it is judged as any other words are.
+ * First these three:
  */
 enum gp_head {
     GP_ROWS = 0,  /* number of rows, 1 to 32 */

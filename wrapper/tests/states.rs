@@ -163,7 +163,7 @@ fn a_wrong_held_is_refused() -> Result<(), Refusal> {
         for row in 0..state.rows() {
             let at = 3 + row * ROW;
             let number = state.words()[at + HELD];
-            for wrong in [number + 1, number - 1] {
+            for wrong in [number + 1, number.wrapping_sub(1)] {
                 let mut words = *state.words();
                 words[at + HELD] = wrong;
                 refused_as_a_state(&words);

@@ -8,7 +8,9 @@ mod texts;
 pub use limit::{
     any_shape, full_table, limit_pair, short_cycle_pair, slow_table, LimitPair, Shape,
 };
-pub use states::{every_bit, row_counts, state_lengths, state_room, state_room_of, ticks};
+pub use states::{
+    every_bit, followed, row_counts, state_lengths, state_room, state_room_of, ticks,
+};
 pub use tables::{any_table, damaged, faults_in, off_six, rubbish, run_table, sound, FAULTS};
 pub use texts::{
     any_values, byte_room, byte_room_of, changed, deleted, every_change, inserted, miswritten,

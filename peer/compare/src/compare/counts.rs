@@ -10,7 +10,7 @@ use peer::table::ROWS_MAX;
 
 use super::Comparison;
 use crate::course::{shown, Compared, Course, Difference};
-use crate::draw::{every_bit, row_counts, run_table, state_lengths, state_room_of};
+use crate::draw::{every_bit, followed, row_counts, run_table, state_lengths, state_room_of};
 use crate::ffi;
 use crate::lent::Lent;
 
@@ -237,12 +237,9 @@ fn bits(course: &mut Course) -> Compared {
 fn lengths(course: &mut Course) -> Compared {
     for length in state_lengths() {
         let good = ran(&mut course.rng);
-        let more = length.saturating_sub(good.len());
-        for after in [vec![0; more], state_room_of(&mut course.rng, more)] {
-            let mut words = [good.clone(), after].concat();
-            words.truncate(length);
+        for whole in followed(&mut course.rng, &good, length) {
             let (row, room) = (row(&mut course.rng), [7; COUNT_WORDS]);
-            same_counts(course, &words, row, &room)?;
+            same_counts(course, &whole[..length], row, &room)?;
         }
     }
     Ok(())

@@ -61,6 +61,15 @@ pub fn row_counts() -> impl Iterator<Item = u64> {
     bases.into_iter().flat_map(near).chain([u64::MAX])
 }
 
+/// A state with zeros, with rubbish and with itself after it, as far as a length asks for
+/// more words than it has.
+pub fn followed(rng: &mut Rng, good: &[u64], length: usize) -> [Vec<u64>; 3] {
+    let more = length.saturating_sub(good.len());
+    let rubbish = state_room_of(rng, more);
+    let itself = good.iter().copied().cycle().take(more).collect();
+    [vec![0; more], rubbish, itself].map(|after| [good, &after].concat())
+}
+
 /// Lengths on both sides of 611 words, and some that are far from it.
 pub fn state_lengths() -> impl Iterator<Item = usize> {
     let twice = 2 * STATE_WORDS;

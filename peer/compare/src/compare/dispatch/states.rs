@@ -6,7 +6,7 @@ use peer::gen::{damaged_states, scrambled_state, state};
 
 use super::{same_call, Call};
 use crate::course::{shown, Compared, Course};
-use crate::draw::{every_bit, row_counts, state_lengths, state_room_of, ticks};
+use crate::draw::{every_bit, followed, row_counts, state_lengths, ticks};
 use crate::ffi;
 
 /// States whose fields are damaged in turn, well over a thousand ways each.
@@ -37,13 +37,8 @@ fn same_calls(course: &mut Course, words: &[u64]) -> Compared {
 pub fn lengths(course: &mut Course) -> Compared {
     for length in state_lengths() {
         let good = state(&mut course.rng);
-        let more = length.saturating_sub(good.len());
-        let rubbish = state_room_of(&mut course.rng, more);
-        let itself = good.iter().copied().cycle().take(more).collect();
-        for after in [vec![0; more], rubbish, itself] {
-            let mut words = [good.clone(), after].concat();
-            words.truncate(length);
-            same_calls(course, &words)?;
+        for whole in followed(&mut course.rng, &good, length) {
+            same_calls(course, &whole[..length])?;
         }
     }
     no_words(course)

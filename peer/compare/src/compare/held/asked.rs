@@ -13,7 +13,7 @@ use super::super::counts;
 use super::super::dispatch::{begun, Call};
 use super::{kept_true, Place};
 use crate::course::{shown, Compared, Course, Difference};
-use crate::draw::{every_bit, row_counts, run_table, state_lengths, state_room_of};
+use crate::draw::{every_bit, followed, row_counts, run_table, state_lengths, state_room_of};
 use crate::ffi;
 use crate::lent::Lent;
 
@@ -176,11 +176,7 @@ pub fn bits(course: &mut Course) -> Compared {
 pub fn lengths(course: &mut Course) -> Compared {
     for length in state_lengths() {
         let good = state(&mut course.rng);
-        let more = length.saturating_sub(good.len());
-        let rubbish = state_room_of(&mut course.rng, more);
-        let itself = good.iter().copied().cycle().take(more).collect();
-        for after in [vec![0; more], rubbish, itself] {
-            let whole = [good.clone(), after].concat();
+        for whole in followed(&mut course.rng, &good, length) {
             let (words, cut) = whole.split_at(length);
             for row in telling_rows(&good) {
                 let lent = Lent::followed(&mut course.rng, words, cut);
