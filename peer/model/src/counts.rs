@@ -2,7 +2,7 @@
 //! names them, and the number of met marks that the screen asks for.
 
 use crate::answer::{refusal, Answer};
-use crate::dispatch::{from_words, spare, well_formed, Row};
+use crate::dispatch::{counts, from_words, spare, well_formed, Row};
 use crate::dispatch::{HEAD_WORDS, HELD, SAVED_ROW_WORDS, STATE_WORDS, WINDOW};
 use crate::table::ROWS_MAX;
 
@@ -10,16 +10,9 @@ use crate::table::ROWS_MAX;
 pub const COUNT_WORDS: usize = 7;
 
 fn counts_of(row: &Row) -> [u64; COUNT_WORDS] {
-    let counts = [
-        row.released,
-        row.mm,
-        row.mx,
-        row.om,
-        row.ox,
-        row.broken,
-        spare(row.window, row.m, row.k),
-    ];
-    counts.map(u64::from)
+    let [released, mm, mx, om, ox, broken] = counts(row);
+    let spare = u64::from(spare(row.window, row.m, row.k));
+    [released, mm, mx, om, ox, broken, spare]
 }
 
 /// The counts of a row, into the first seven words of the lent room: 14, then

@@ -493,24 +493,20 @@ fn saved_row(row: &Row) -> [u64; SAVED_ROW_WORDS] {
         row.id, row.c, row.t, row.d, row.m, row.k, row.wait, row.place, row.work, row.left,
         row.kind,
     ];
-    let high = [
-        row.released,
-        row.mm,
-        row.mx,
-        row.om,
-        row.ox,
-        row.broken,
-        row.held,
-    ];
     let mut saved = [0; SAVED_ROW_WORDS];
     for (word, field) in saved.iter_mut().zip(low) {
         *word = u64::from(field);
     }
     saved[WINDOW] = row.window;
-    for (word, field) in saved[WINDOW + 1..].iter_mut().zip(high) {
-        *word = u64::from(field);
-    }
+    saved[WINDOW + 1..HELD].copy_from_slice(&counts(row));
+    saved[HELD] = u64::from(row.held);
     saved
+}
+
+/// "released jobs, mandatory met and missed, optional met and missed, and broken
+/// windows": the order in which they are saved and printed.
+pub(crate) fn counts(row: &Row) -> [u64; 6] {
+    [row.released, row.mm, row.mx, row.om, row.ox, row.broken].map(u64::from)
 }
 
 /// The state that the words save, or `None` when there is none: a length other
