@@ -1,6 +1,6 @@
 // The pattern book, and the question about one job.
 ghost use mathlib.Core.Path.{_≡_};
-ghost use Prim.Native.Nat.{_<_, _≤_, _/_, _%_, _^_};
+ghost use Prim.Native.Nat.{_<_, _≤_, _-_, _/_, _%_, _^_};
 ghost use lib.Dec.{eqb};
 ghost use Rattle.law.specs.Pattern.{InRange, theBook, word, pairWord, question};
 ghost use Rattle.book.specs.Shown.{jobShown, wordShown};
@@ -47,6 +47,14 @@ fn pattern(m: u64, k: u64) -> u64
 {
     let book = the_book();
     word_in(&book, m, k)
+}
+
+// The word whose first n bits are set, and no other: a deeply-red pattern with n of any k, and a window of n met marks.
+pub fn low_bits(n: u64) -> u64
+    requires { ⌜ (1 ≤ n) × (n ≤ 64) ⌝ }
+    ensures { λ r. ⌜ r ≡ 2 ^ n - 1 ⌝ }
+{
+    0xffff_ffff_ffff_ffff >> (64 - n)
 }
 
 // Whether the job at a place of a pattern is mandatory: the place's bit, brought down by a shift.

@@ -60,27 +60,27 @@ module _ (words : List ℕ) (good : savedWell words ≡ true) where
       ∙ ap laid (sym (run-add t u (stateOf words))) ∙ sym (run-done words (t + u) good h .1)
 
 module _ (table vs : List ℕ) (good : checked table ≡ accepted vs) where
-  pub begun-laid : freshWords table (replicate 611 0) ≡ laid (fresh (tableOf table))
+  pub begun-laid : freshWords table (replicate 643 0) ≡ laid (fresh (tableOf table))
   begun-laid =
-      fresh-laid table (replicate 611 0) vs good (omega (arith, length-replicate {A = ℕ} 611 0)) .1 ∙ append-nil (laid (fresh (tableOf table)))
+      fresh-laid table (replicate 643 0) vs good (omega (arith, length-replicate {A = ℕ} 643 0)) .1 ∙ append-nil (laid (fresh (tableOf table)))
 
-  begun-saved : savedWell (freshWords table (replicate 611 0)) ≡ true
+  begun-saved : savedWell (freshWords table (replicate 643 0)) ≡ true
   begun-saved =
       ap savedWell begun-laid ∙ laid-saved (fresh (tableOf table)) (fresh-sound (tableOf table) (checked-accepted table vs good .table))
 
-  begun-time : getD (freshWords table (replicate 611 0)) 1 0 ≡ 0
+  begun-time : getD (freshWords table (replicate 643 0)) 1 0 ≡ 0
   unfolding laid fresh
   begun-time = ap (λ (z : List ℕ). getD z 1 0) begun-laid
 
-  pub begun-runs : (n : ℕ) → n ≤ clockEnd → runAnswer (freshWords table (replicate 611 0)) n ≡ accepted []
-  begun-runs n h = run-done (freshWords table (replicate 611 0)) n begun-saved (omega (arith, begun-time)) .0
+  pub begun-runs : (n : ℕ) → n ≤ clockEnd → runAnswer (freshWords table (replicate 643 0)) n ≡ accepted []
+  begun-runs n h = run-done (freshWords table (replicate 643 0)) n begun-saved (omega (arith, begun-time)) .0
 
-  pub begun-run : (n : ℕ) → n ≤ clockEnd → runWords (freshWords table (replicate 611 0)) n ≡ laid (run n (fresh (tableOf table)))
+  pub begun-run : (n : ℕ) → n ≤ clockEnd → runWords (freshWords table (replicate 643 0)) n ≡ laid (run n (fresh (tableOf table)))
   begun-run n h =
-      run-done (freshWords table (replicate 611 0)) n begun-saved (omega (arith, begun-time)) .1
+      run-done (freshWords table (replicate 643 0)) n begun-saved (omega (arith, begun-time)) .1
       ∙ ap (λ (z : List ℕ). laid (run n (stateOf z))) begun-laid
       ∙ ap (λ z. laid (run n z)) (state-laid (fresh (tableOf table)))
 
   pub begun-pieces : (t u : ℕ) → t + u ≤ clockEnd
-      → runWords (runWords (freshWords table (replicate 611 0)) t) u ≡ runWords (freshWords table (replicate 611 0)) (t + u)
-  begun-pieces t u h = run-pieces (freshWords table (replicate 611 0)) begun-saved t u (omega (arith, begun-time))
+      → runWords (runWords (freshWords table (replicate 643 0)) t) u ≡ runWords (freshWords table (replicate 643 0)) (t + u)
+  begun-pieces t u h = run-pieces (freshWords table (replicate 643 0)) begun-saved t u (omega (arith, begun-time))

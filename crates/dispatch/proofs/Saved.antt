@@ -24,14 +24,14 @@ module _ (words : List ℕ) where
   table-rows : length (tasksOf (stateOf words .rows)) ≡ getD words 0 0
   table-rows = tasks-length (stateOf words .rows) ∙ rows-are words
 
-  pub length-off : (length words ≡ 611 → ⊥) → false ≡ savedWell words
+  pub length-off : (length words ≡ 643 → ⊥) → false ≡ savedWell words
   unfolding savedWell
-  length-off h = sym (rw (ne-eqb (length words) 611 h))
+  length-off h = sym (rw (ne-eqb (length words) 643 h))
 
-  module _ (long : length words ≡ 611) where
+  module _ (long : length words ≡ 643) where
     pub rows-off : within 1 32 (getD words 0 0) ≡ false → false ≡ savedWell words
     unfolding savedWell stateWell tableWell
-    rows-off e = sym (rw (eq-eqb (length words) 611 long, table-rows, e))
+    rows-off e = sym (rw (eq-eqb (length words) 643 long, table-rows, e))
 
     module _ (rows : within 1 32 (getD words 0 0) ≡ true) where
       pub sized : Sized words (getD words 0 0)
@@ -39,13 +39,13 @@ module _ (words : List ℕ) where
 
       pub table-off : eqb (faulty (tasksOf (stateOf words .rows))) (getD words 0 0) ≡ false → false ≡ savedWell words
       unfolding savedWell stateWell tableWell
-      table-off e = sym (rw (eq-eqb (length words) 611 long, table-rows, rows, e))
+      table-off e = sym (rw (eq-eqb (length words) 643 long, table-rows, rows, e))
 
       module _ (clean : eqb (faulty (tasksOf (stateOf words .rows))) (getD words 0 0) ≡ true) where
         pub time-off : clockEnd < getD words 1 0 → false ≡ savedWell words
         unfolding savedWell stateWell tableWell
         time-off h =
-            sym (rw (eq-eqb (length words) 611 long, table-rows, rows, clean, lt-leb (stateOf words .time) clockEnd (rw (time-word words) at h)))
+            sym (rw (eq-eqb (length words) 643 long, table-rows, rows, clean, lt-leb (stateOf words .time) clockEnd (rw (time-word words) at h)))
 
         module _ (early : getD words 1 0 ≤ clockEnd) where
           in-time : leb (stateOf words .time) clockEnd ≡ true
@@ -55,7 +55,7 @@ module _ (words : List ℕ) where
           unfolding savedWell stateWell tableWell
           idle-off h =
               sym
-              (rw (eq-eqb (length words) 611 long, table-rows, rows, clean, in-time, lt-leb (stateOf words .idle) (stateOf words .time) (rw (time-word words, idle-word words) at h)))
+              (rw (eq-eqb (length words) 643 long, table-rows, rows, clean, in-time, lt-leb (stateOf words .idle) (stateOf words .time) (rw (time-word words, idle-word words) at h)))
 
           module _ (idle : getD words 2 0 ≤ getD words 1 0) where
             in-idle : leb (stateOf words .idle) (stateOf words .time) ≡ true
@@ -65,21 +65,21 @@ module _ (words : List ℕ) where
             unfolding savedWell stateWell tableWell
             row-off e =
                 sym
-                (rw (eq-eqb (length words) 611 long, table-rows, rows, clean, in-time, in-idle, rw (time-word words) at e))
+                (rw (eq-eqb (length words) 643 long, table-rows, rows, clean, in-time, in-idle, rw (time-word words) at e))
 
             pub all-on : every (rowWell (getD words 1 0)) (stateOf words .rows) ≡ true
-                → every (λ w. eqb w 0) (drop (3 + getD words 0 0 * 19) words) ≡ savedWell words
+                → every (λ w. eqb w 0) (drop (3 + getD words 0 0 * 20) words) ≡ savedWell words
             unfolding savedWell stateWell tableWell
             all-on e =
                 sym
-                (rw (eq-eqb (length words) 611 long, table-rows, rows, clean, in-time, in-idle, rw (time-word words) at e))
+                (rw (eq-eqb (length words) 643 long, table-rows, rows, clean, in-time, in-idle, rw (time-word words) at e))
 
 -- words that pass are the words of a well-formed state
 pub saved-held : (words : List ℕ) → savedWell words ≡ true → Held 0 words
 unfolding savedWell
 saved-held words e =
-    let long = eqb-true (length words) 611 (both-left _ _ e) in
-    let rest = both-right (eqb (length words) 611) _ e in
+    let long = eqb-true (length words) 643 (both-left _ _ e) in
+    let rest = both-right (eqb (length words) 643) _ e in
     let s = state-facts (stateOf words) (both-left _ _ rest) in
     let few : getD words 0 0 ≤ 32 = omega (arith, s .table .rows-high, table-rows words) in
     record {
@@ -124,26 +124,26 @@ module _ (words : List ℕ) (i : ℕ) (room : List ℕ) where
 
 -- the frame question by its cases
 module _ (words : List ℕ) (i : ℕ) where
-  pub frame-length : (length words ≡ 611 → ⊥) → heldAnswer words i ≡ refused 14 []
+  pub frame-length : (length words ≡ 643 → ⊥) → heldAnswer words i ≡ refused 14 []
   unfolding heldAnswer
-  frame-length h = rw (ne-eqb (length words) 611 h)
+  frame-length h = rw (ne-eqb (length words) 643 h)
 
-  module _ (long : length words ≡ 611) where
+  module _ (long : length words ≡ 643) where
     pub frame-rows : within 1 32 (getD words 0 0) ≡ false → heldAnswer words i ≡ refused 14 []
     unfolding heldAnswer
-    frame-rows e = rw (eq-eqb (length words) 611 long, e)
+    frame-rows e = rw (eq-eqb (length words) 643 long, e)
 
     module _ (rows : within 1 32 (getD words 0 0) ≡ true) where
       pub frame-told : heldAnswer words i ≡ accepted (getD (stateOf words .rows) i noRow .tally .held ∷ [])
       unfolding heldAnswer
-      frame-told = rw (eq-eqb (length words) 611 long, rows)
+      frame-told = rw (eq-eqb (length words) 643 long, rows)
 
       pub frame-none : getD words 0 0 ≤ i → heldAnswer words i ≡ accepted (0 ∷ [])
       frame-none h =
           frame-told
           ∙ ap (λ (z : Row). accepted (z .tally .held ∷ [])) (List·getD-eq-default (stateOf words .rows) noRow (omega (arith, rows-are words)))
 
-      pub frame-row : i < getD words 0 0 → heldAnswer words i ≡ accepted (getD words (i * 19 + (3 + 18)) 0 ∷ [])
+      pub frame-row : i < getD words 0 0 → heldAnswer words i ≡ accepted (getD words (i * 20 + (3 + 19)) 0 ∷ [])
       unfolding rowOf
       frame-row h = frame-told ∙ ap (λ (z : Row). accepted (z .tally .held ∷ [])) (sym (row-read words i (omega (arith, rows-are words))))
 
@@ -163,11 +163,11 @@ module _ (table room : List ℕ) where
   fresh-unchecked n also e = (rw e, rw e)
 
   module _ (vs : List ℕ) (good : checked table ≡ accepted vs) where
-    pub fresh-short : length room < 611 → (freshAnswer table (length room) ≡ refused 13 []) × (freshWords table room ≡ room)
+    pub fresh-short : length room < 643 → (freshAnswer table (length room) ≡ refused 13 []) × (freshWords table room ≡ room)
     unfolding freshAnswer freshWords
-    fresh-short h = let e = lt-leb 611 (length room) h in (rw (good, e), rw (good, e))
+    fresh-short h = let e = lt-leb 643 (length room) h in (rw (good, e), rw (good, e))
 
-    pub fresh-laid : 611 ≤ length room
-        → (freshAnswer table (length room) ≡ accepted (length (tableOf table) ∷ [])) × (freshWords table room ≡ laid (fresh (tableOf table)) ++ drop 611 room)
+    pub fresh-laid : 643 ≤ length room
+        → (freshAnswer table (length room) ≡ accepted (length (tableOf table) ∷ [])) × (freshWords table room ≡ laid (fresh (tableOf table)) ++ drop 643 room)
     unfolding freshAnswer freshWords
-    fresh-laid h = let e = le-leb 611 (length room) h in (rw (good, e), rw (good, e))
+    fresh-laid h = let e = le-leb 643 (length room) h in (rw (good, e), rw (good, e))

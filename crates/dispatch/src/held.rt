@@ -13,7 +13,7 @@ pub enum Marks {
     Refused(Refusal),
 }
 
-// The number that is stored for row i, its word 18; 0 where there is no such row. It is read in every frame, so no row is gone through,
+// The number that is stored for row i, its word 19; 0 where there is no such row. It is read in every frame, so no row is gone through,
 // and words are refused only where their number or the number of rows shows that they are no state.
 pub fn held_words(words: &[u64], i: u32) -> Marks
     ensures { λ r. ⌜ marksShown r ≡ heldAnswer (now (words .entry)) i ⌝ }
@@ -27,5 +27,5 @@ pub fn held_words(words: &[u64], i: u32) -> Marks
     if words[0] <= i as u64 {
         return Marks::Held(0);
     }
-    Marks::Held(word(words, i as usize, 18))
+    Marks::Held(word(words, i as usize, 19))
 }

@@ -8,6 +8,7 @@ ghost use Rattle.law.specs.State.{laid, freshAnswer, freshWords as freshWordsLa
 ghost use Rattle.table.specs.Said.{taskSaid};
 ghost use Rattle.rows.specs.Said.{rowSaid};
 ghost use Rattle.dispatch.specs.Shown.{startedShown};
+use book::low_bits;
 use refusal::Refusal;
 use rows::Row;
 use rows::STATE_WORDS;
@@ -38,7 +39,7 @@ fn fresh_row(task: Task) -> Row
     ensures { λ r. ⌜ rowSaid r ≡ freshRow (taskSaid task) ⌝ }
 {
     let tally = Tally {
-        window: 0xffff_ffff_ffff_ffff >> (64 - task.k),
+        window: low_bits(task.k),
         released: 0,
         mm: 0,
         mx: 0,
@@ -71,7 +72,7 @@ fn clear(words: &mut [u64])
 
 // The words of a table's fresh state: its number of rows, time 0, idle 0, and a fresh row for each task.
 fn lay_fresh(table: &[u32], words: &mut [u64])
-    requires { ⌜ (WellFormed (tableOf (now table))) × (length (now words) ≡ 611) ⌝ }
+    requires { ⌜ (WellFormed (tableOf (now table))) × (length (now words) ≡ 643) ⌝ }
     ensures { λ _. ⌜ now (words .exit) ≡ laid (freshLaw (tableOf (now (table .entry)))) ⌝ }
 {
     let rows = table.len() / WIDTH;
@@ -102,10 +103,10 @@ pub fn fresh_words(table: &[u32], room: &mut [u64]) -> Started
 
 // The fresh state of a table by value.
 pub fn fresh(table: &[u32]) -> Begun
-    ensures answer { λ r. ⌜ startedShown (r .answer) ≡ freshAnswer (now (table .entry)) 611 ⌝ }
-    ensures state { λ r. ⌜ r .state .words ≡ freshWordsLaw (now (table .entry)) (replicate 611 0) ⌝ }
+    ensures answer { λ r. ⌜ startedShown (r .answer) ≡ freshAnswer (now (table .entry)) 643 ⌝ }
+    ensures state { λ r. ⌜ r .state .words ≡ freshWordsLaw (now (table .entry)) (replicate 643 0) ⌝ }
 {
-    let mut words = [0u64; 611];
+    let mut words = [0u64; 643];
     let answer = fresh_words(table, &mut words);
     Begun {
         answer,

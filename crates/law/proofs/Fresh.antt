@@ -55,11 +55,11 @@ unfolding every
 zeros-clear zero = refl
 zeros-clear (suc n) = zeros-clear n
 
-past : (s : State) → drop (3 + length (s .rows) * 19) (laid s) ≡ replicate ((32 - length (s .rows)) * 19) 0
+past : (s : State) → drop (3 + length (s .rows) * 20) (laid s) ≡ replicate ((32 - length (s .rows)) * 20) 0
 unfolding laid
 past s =
-    let e : 3 + length (s .rows) * 19 ≡ suc (suc (suc (length (s .rows) * 19))) = omega arith in
-    rw e (drop-at (rowsLaid (s .rows)) _ (length (s .rows) * 19) (rows-length (s .rows)))
+    let e : 3 + length (s .rows) * 20 ≡ suc (suc (suc (length (s .rows) * 20))) = omega arith in
+    rw e (drop-at (rowsLaid (s .rows)) _ (length (s .rows) * 20) (rows-length (s .rows)))
 
 first-word : (s : State) → getD (laid s) 0 0 ≡ length (s .rows)
 unfolding laid
@@ -69,7 +69,7 @@ pub laid-saved : (s : State) → SoundState 0 s → savedWell (laid s) ≡ true
 unfolding savedWell
 laid-saved s f =
     let few : length (s .rows) ≤ 32 = omega (arith, f .table .rows-high, tasks-length (s .rows)) in
-    both-true _ _ (eq-eqb (length (laid s)) 611 (laid-length s few))
+    both-true _ _ (eq-eqb (length (laid s)) 643 (laid-length s few))
     (both-true _ _ (ap stateWell (state-laid s) ∙ state-tests s f)
-    (ap (λ (z : ℕ). every (λ w. eqb w 0) (drop (3 + z * 19) (laid s))) (first-word s) ∙ ap (every (λ w. eqb w 0)) (past s)
-    ∙ zeros-clear ((32 - length (s .rows)) * 19)))
+    (ap (λ (z : ℕ). every (λ w. eqb w 0) (drop (3 + z * 20) (laid s))) (first-word s) ∙ ap (every (λ w. eqb w 0)) (past s)
+    ∙ zeros-clear ((32 - length (s .rows)) * 20)))

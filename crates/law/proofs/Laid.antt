@@ -20,7 +20,7 @@ use Rattle.law.proofs.First.{build-length, build-at}
 
 -- ---- one row
 
-pub row-length : (r : Row) → length (wordsOf r) ≡ 19
+pub row-length : (r : Row) → length (wordsOf r) ≡ 20
 unfolding wordsOf
 row-length r = refl
 
@@ -28,8 +28,8 @@ row-again : (r : Row) → rowOf (λ j. getD (wordsOf r) j 0) ≡ r
 unfolding wordsOf rowOf taskOf
 row-again r = refl
 
--- two rows of words are the same where their nineteen words are
-row-same : (f g : ℕ → ℕ) → ((j : ℕ) → j < 19 → f j ≡ g j) → rowOf f ≡ rowOf g
+-- two rows of words are the same where their twenty words are
+row-same : (f g : ℕ → ℕ) → ((j : ℕ) → j < 20 → f j ≡ g j) → rowOf f ≡ rowOf g
 unfolding rowOf taskOf
 row-same f g h =
     λ i. record {
@@ -43,104 +43,105 @@ row-same f g h =
                   d = h 3 (omega arith) i;
                   m = h 4 (omega arith) i;
                   k = h 5 (omega arith) i;
+                  p = h 6 (omega arith) i;
                 };
-            wait = h 6 (omega arith) i;
-            place = h 7 (omega arith) i;
-            work = h 8 (omega arith) i;
-            left = h 9 (omega arith) i;
-            kind = h 10 (omega arith) i;
+            wait = h 7 (omega arith) i;
+            place = h 8 (omega arith) i;
+            work = h 9 (omega arith) i;
+            left = h 10 (omega arith) i;
+            kind = h 11 (omega arith) i;
           };
       tally =
           record {
-            window = h 11 (omega arith) i;
-            released = h 12 (omega arith) i;
-            mm = h 13 (omega arith) i;
-            mx = h 14 (omega arith) i;
-            om = h 15 (omega arith) i;
-            ox = h 16 (omega arith) i;
-            broken = h 17 (omega arith) i;
-            held = h 18 (omega arith) i;
+            window = h 12 (omega arith) i;
+            released = h 13 (omega arith) i;
+            mm = h 14 (omega arith) i;
+            mx = h 15 (omega arith) i;
+            om = h 16 (omega arith) i;
+            ox = h 17 (omega arith) i;
+            broken = h 18 (omega arith) i;
+            held = h 19 (omega arith) i;
           };
     }
 
-word-of-row : (f : ℕ → ℕ) (j : ℕ) → j < 19 → getD (wordsOf (rowOf f)) j 0 ≡ f j
+word-of-row : (f : ℕ → ℕ) (j : ℕ) → j < 20 → getD (wordsOf (rowOf f)) j 0 ≡ f j
 unfolding wordsOf rowOf taskOf build
-word-of-row f j h = build-at f 19 j 0 h
+word-of-row f j h = build-at f 20 j 0 h
 
 -- ---- all rows
 
-pub rows-length : (rows : List Row) → length (rowsLaid rows) ≡ length rows * 19
+pub rows-length : (rows : List Row) → length (rowsLaid rows) ≡ length rows * 20
 unfolding rowsLaid
 rows-length [] = refl
-rows-length (r ∷ rows) = length-append (wordsOf r) (rowsLaid rows) ∙ omega (arith, row-length r, rows-length rows, suc-mul (length rows) 19)
+rows-length (r ∷ rows) = length-append (wordsOf r) (rowsLaid rows) ∙ omega (arith, row-length r, rows-length rows, suc-mul (length rows) 20)
 
 -- word j of row i, whatever follows the rows
-rows-at : (rows : List Row) (rest : List ℕ) (i j : ℕ) → i < length rows → j < 19
-    → getD (rowsLaid rows ++ rest) (i * 19 + j) 0 ≡ getD (wordsOf (getD rows i noRow)) j 0
+rows-at : (rows : List Row) (rest : List ℕ) (i j : ℕ) → i < length rows → j < 20
+    → getD (rowsLaid rows ++ rest) (i * 20 + j) 0 ≡ getD (wordsOf (getD rows i noRow)) j 0
 unfolding rowsLaid
 rows-at [] rest i j h l = absurd (omega arith)
 rows-at (r ∷ rows) rest zero j h l =
-    let e : zero * 19 + j ≡ j = omega arith in
+    let e : zero * 20 + j ≡ j = omega arith in
     rw e
     (ap (λ (z : List ℕ). getD z j 0) (append-assoc (wordsOf r) (rowsLaid rows) rest)
     ∙ List·getD-append (wordsOf r) (rowsLaid rows ++ rest) 0 j (omega (arith, row-length r)))
 rows-at (r ∷ rows) rest (suc i) j h l =
-    let e : suc i * 19 + j ≡ length (wordsOf r) + (i * 19 + j) = omega (arith, suc-mul i 19, row-length r) in
+    let e : suc i * 20 + j ≡ length (wordsOf r) + (i * 20 + j) = omega (arith, suc-mul i 20, row-length r) in
     rw e
-    (ap (λ (z : List ℕ). getD z (length (wordsOf r) + (i * 19 + j)) 0) (append-assoc (wordsOf r) (rowsLaid rows) rest)
-    ∙ getD-append-add (wordsOf r) (rowsLaid rows ++ rest) (i * 19 + j) 0 ∙ rows-at rows rest i j (omega arith) l)
+    (ap (λ (z : List ℕ). getD z (length (wordsOf r) + (i * 20 + j)) 0) (append-assoc (wordsOf r) (rowsLaid rows) rest)
+    ∙ getD-append-add (wordsOf r) (rowsLaid rows ++ rest) (i * 20 + j) 0 ∙ rows-at rows rest i j (omega arith) l)
 
-first-set : (q r : Row) (l rest : List ℕ) → wordsOf r ++ drop 19 ((wordsOf q ++ l) ++ rest) ≡ (wordsOf r ++ l) ++ rest
+first-set : (q r : Row) (l rest : List ℕ) → wordsOf r ++ drop 20 ((wordsOf q ++ l) ++ rest) ≡ (wordsOf r ++ l) ++ rest
 unfolding wordsOf
 first-set q r l rest = refl
 
 -- another row i: its words in place of the old ones
 rows-set : (rows : List Row) (rest : List ℕ) (i : ℕ) (r : Row) → i < length rows
-    → take (i * 19) (rowsLaid rows ++ rest) ++ (wordsOf r ++ drop (i * 19 + 19) (rowsLaid rows ++ rest)) ≡ rowsLaid (set rows i r) ++ rest
+    → take (i * 20) (rowsLaid rows ++ rest) ++ (wordsOf r ++ drop (i * 20 + 20) (rowsLaid rows ++ rest)) ≡ rowsLaid (set rows i r) ++ rest
 unfolding rowsLaid
 rows-set [] rest i r h = absurd (omega arith)
 rows-set (q ∷ rows) rest zero r h = first-set q r (rowsLaid rows) rest
 rows-set (q ∷ rows) rest (suc i) r h =
     let x = rowsLaid rows ++ rest in
     let w = wordsOf q in
-    let e : suc i * 19 ≡ length w + i * 19 = omega (arith, suc-mul i 19, row-length q) in
-    let f : suc i * 19 + 19 ≡ length w + (i * 19 + 19) = omega (arith, suc-mul i 19, row-length q) in
-    ap (λ (z : List ℕ). take (suc i * 19) z ++ (wordsOf r ++ drop (suc i * 19 + 19) z)) (append-assoc w (rowsLaid rows) rest)
-    ∙ ap (λ (z : ℕ). take z (w ++ x) ++ (wordsOf r ++ drop (suc i * 19 + 19) (w ++ x))) e
-    ∙ ap (λ (z : ℕ). take (length w + i * 19) (w ++ x) ++ (wordsOf r ++ drop z (w ++ x))) f
-    ∙ ap (λ (z : List ℕ). z ++ (wordsOf r ++ drop (length w + (i * 19 + 19)) (w ++ x))) (take-append-add w x (i * 19))
-    ∙ ap (λ (z : List ℕ). (w ++ take (i * 19) x) ++ (wordsOf r ++ z)) (drop-append-add w x (i * 19 + 19))
-    ∙ append-assoc w (take (i * 19) x) (wordsOf r ++ drop (i * 19 + 19) x)
+    let e : suc i * 20 ≡ length w + i * 20 = omega (arith, suc-mul i 20, row-length q) in
+    let f : suc i * 20 + 20 ≡ length w + (i * 20 + 20) = omega (arith, suc-mul i 20, row-length q) in
+    ap (λ (z : List ℕ). take (suc i * 20) z ++ (wordsOf r ++ drop (suc i * 20 + 20) z)) (append-assoc w (rowsLaid rows) rest)
+    ∙ ap (λ (z : ℕ). take z (w ++ x) ++ (wordsOf r ++ drop (suc i * 20 + 20) (w ++ x))) e
+    ∙ ap (λ (z : ℕ). take (length w + i * 20) (w ++ x) ++ (wordsOf r ++ drop z (w ++ x))) f
+    ∙ ap (λ (z : List ℕ). z ++ (wordsOf r ++ drop (length w + (i * 20 + 20)) (w ++ x))) (take-append-add w x (i * 20))
+    ∙ ap (λ (z : List ℕ). (w ++ take (i * 20) x) ++ (wordsOf r ++ z)) (drop-append-add w x (i * 20 + 20))
+    ∙ append-assoc w (take (i * 20) x) (wordsOf r ++ drop (i * 20 + 20) x)
     ∙ ap (λ (z : List ℕ). w ++ z) (rows-set rows rest i r (omega arith)) ∙ sym (append-assoc w (rowsLaid (set rows i r)) rest)
 
 -- ---- the whole state
 
 -- rows past the last
 nothing-after : ℕ → List ℕ
-nothing-after n = replicate ((32 - n) * 19) 0
+nothing-after n = replicate ((32 - n) * 20) 0
 
 body : (s : State) → laid s ≡ length (s .rows) ∷ s .time ∷ s .idle ∷ (rowsLaid (s .rows) ++ nothing-after (length (s .rows)))
 unfolding laid nothing-after
 body s = refl
 
-pub laid-length : (s : State) → length (s .rows) ≤ 32 → length (laid s) ≡ 611
+pub laid-length : (s : State) → length (s .rows) ≤ 32 → length (laid s) ≡ 643
 unfolding laid
 laid-length s h =
-    let rest : List ℕ = replicate ((32 - length (s .rows)) * 19) 0 in
-    let l : length rest ≡ (32 - length (s .rows)) * 19 = length-replicate ((32 - length (s .rows)) * 19) 0 in
+    let rest : List ℕ = replicate ((32 - length (s .rows)) * 20) 0 in
+    let l : length rest ≡ (32 - length (s .rows)) * 20 = length-replicate ((32 - length (s .rows)) * 20) 0 in
     omega (arith, length-append (rowsLaid (s .rows)) rest, rows-length (s .rows), l)
 
 -- word j of row i
-laid-word : (s : State) (i j : ℕ) → i < length (s .rows) → j < 19
-    → getD (laid s) (i * 19 + (3 + j)) 0 ≡ getD (wordsOf (getD (s .rows) i noRow)) j 0
+laid-word : (s : State) (i j : ℕ) → i < length (s .rows) → j < 20
+    → getD (laid s) (i * 20 + (3 + j)) 0 ≡ getD (wordsOf (getD (s .rows) i noRow)) j 0
 unfolding laid
 laid-word s i j h l =
-    let e : i * 19 + (3 + j) ≡ suc (suc (suc (i * 19 + j))) = omega arith in
+    let e : i * 20 + (3 + j) ≡ suc (suc (suc (i * 20 + j))) = omega arith in
     rw e (rows-at (s .rows) _ i j h l)
 
 pub laid-row : (s : State) (i : ℕ) → i < length (s .rows) → rowAt (laid s) i ≡ getD (s .rows) i noRow
 laid-row s i h =
-    row-same (λ j. getD (laid s) (i * 19 + (3 + j)) 0) (λ j. getD (wordsOf (getD (s .rows) i noRow)) j 0) (λ j l. laid-word s i j h l)
+    row-same (λ j. getD (laid s) (i * 20 + (3 + j)) 0) (λ j. getD (wordsOf (getD (s .rows) i noRow)) j 0) (λ j l. laid-word s i j h l)
     ∙ row-again (getD (s .rows) i noRow)
 
 sets-are : (words : List ℕ) (b n : ℕ) (vs : List ℕ) → setsFrom words b n vs ≡ sets words (b + n) vs
@@ -150,17 +151,17 @@ sets-are words b n (v ∷ vs) =
     sets-are (set words (b + n) v) b (suc n) vs ∙ ap (λ (z : ℕ). sets (set words (b + n) v) z vs) (add-suc b n)
 
 pub laid-put : (s : State) (i : ℕ) (r : Row) → length (s .rows) ≤ 32 → i < length (s .rows)
-    → setsFrom (laid s) (i * 19) 3 (wordsOf r) ≡ laid (withRow s i r)
+    → setsFrom (laid s) (i * 20) 3 (wordsOf r) ≡ laid (withRow s i r)
 unfolding laid nothing-after
 laid-put s i r few h =
     let x = rowsLaid (s .rows) ++ nothing-after (length (s .rows)) in
-    let e : i * 19 + 3 ≡ suc (suc (suc (i * 19))) = omega arith in
-    let f : i * 19 + 3 + length (wordsOf r) ≡ suc (suc (suc (i * 19 + 19))) = omega (arith, row-length r) in
-    sets-are (laid s) (i * 19) 3 (wordsOf r)
-    ∙ sets-eq (wordsOf r) (laid s) (i * 19 + 3) (omega (arith, laid-length s few, row-length r))
-    ∙ append-assoc (take (i * 19 + 3) (laid s)) (wordsOf r) (drop (i * 19 + 3 + length (wordsOf r)) (laid s))
-    ∙ ap (λ (z : ℕ). take z (laid s) ++ (wordsOf r ++ drop (i * 19 + 3 + length (wordsOf r)) (laid s))) e
-    ∙ ap (λ (z : ℕ). take (suc (suc (suc (i * 19)))) (laid s) ++ (wordsOf r ++ drop z (laid s))) f
+    let e : i * 20 + 3 ≡ suc (suc (suc (i * 20))) = omega arith in
+    let f : i * 20 + 3 + length (wordsOf r) ≡ suc (suc (suc (i * 20 + 20))) = omega (arith, row-length r) in
+    sets-are (laid s) (i * 20) 3 (wordsOf r)
+    ∙ sets-eq (wordsOf r) (laid s) (i * 20 + 3) (omega (arith, laid-length s few, row-length r))
+    ∙ append-assoc (take (i * 20 + 3) (laid s)) (wordsOf r) (drop (i * 20 + 3 + length (wordsOf r)) (laid s))
+    ∙ ap (λ (z : ℕ). take z (laid s) ++ (wordsOf r ++ drop (i * 20 + 3 + length (wordsOf r)) (laid s))) e
+    ∙ ap (λ (z : ℕ). take (suc (suc (suc (i * 20)))) (laid s) ++ (wordsOf r ++ drop z (laid s))) f
     ∙ ap (λ (z : List ℕ). length (s .rows) ∷ s .time ∷ s .idle ∷ z) (rows-set (s .rows) (nothing-after (length (s .rows))) i r h)
     ∙ ap (λ (z : ℕ). z ∷ s .time ∷ s .idle ∷ (rowsLaid (set (s .rows) i r) ++ nothing-after z)) (sym (length-set (s .rows) i r))
 
@@ -192,12 +193,12 @@ sets-one words b n (x ∷ vs) (suc j) v q h =
     ∙ ap (λ (z : ℕ). set words (b + z) v) (sym (over n j))
 
 -- one word of a row
-pub laid-put-word : (s : State) (i j v : ℕ) (r : Row) → length (s .rows) ≤ 32 → i < length (s .rows) → j < 19
-    → wordsOf r ≡ set (wordsOf (getD (s .rows) i noRow)) j v → set (laid s) (i * 19 + (3 + j)) v ≡ laid (withRow s i r)
+pub laid-put-word : (s : State) (i j v : ℕ) (r : Row) → length (s .rows) ≤ 32 → i < length (s .rows) → j < 20
+    → wordsOf r ≡ set (wordsOf (getD (s .rows) i noRow)) j v → set (laid s) (i * 20 + (3 + j)) v ≡ laid (withRow s i r)
 laid-put-word s i j v r few h l e =
     let q = getD (s .rows) i noRow in
-    sym (sets-one (laid s) (i * 19) 3 (wordsOf q) j v (omega (arith, row-length q)) (λ n p. sym (laid-word s i n h (omega (arith, row-length q)))))
-    ∙ ap (setsFrom (laid s) (i * 19) 3) (sym e) ∙ laid-put s i r few h
+    sym (sets-one (laid s) (i * 20) 3 (wordsOf q) j v (omega (arith, row-length q)) (λ n p. sym (laid-word s i n h (omega (arith, row-length q)))))
+    ∙ ap (setsFrom (laid s) (i * 20) 3) (sym e) ∙ laid-put s i r few h
 
 -- a row with another wait, work and time left
 abbrev pub going : Row → ℕ → ℕ → ℕ → Row
@@ -214,7 +215,7 @@ set-twice (z ∷ l) (suc i) x y = ap (λ (q : List _). z ∷ q) (set-twice l i x
 
 -- its three words
 pub laid-going : (s : State) (i wait work left : ℕ) → length (s .rows) ≤ 32 → i < length (s .rows)
-    → set (set (set (laid s) (i * 19 + 9) wait) (i * 19 + 11) work) (i * 19 + 12) left ≡ laid (withRow s i (going (getD (s .rows) i noRow) wait work left))
+    → set (set (set (laid s) (i * 20 + 10) wait) (i * 20 + 12) work) (i * 20 + 13) left ≡ laid (withRow s i (going (getD (s .rows) i noRow) wait work left))
 unfolding wordsOf
 laid-going s i wait work left few h =
     let r = getD (s .rows) i noRow in
@@ -227,10 +228,10 @@ laid-going s i wait work left few h =
     let la : length (sa .rows) ≡ length (s .rows) = length-set (s .rows) i a in
     let lb : length (sb .rows) ≡ length (sa .rows) = length-set (sa .rows) i b in
     let rb : getD (sb .rows) i noRow ≡ b = getD-set-same (sa .rows) i b noRow (omega arith) in
-    ap (λ (z : List ℕ). set (set z (i * 19 + 11) work) (i * 19 + 12) left) (laid-put-word s i 6 wait a few h (omega arith) refl)
-    ∙ ap (λ (z : List ℕ). set z (i * 19 + 12) left)
-    (laid-put-word sa i 8 work b (omega arith) (omega arith) (omega arith) (ap (λ (z : Row). set (wordsOf z) 8 work) (sym ra)))
-    ∙ laid-put-word sb i 9 left c (omega arith) (omega arith) (omega arith) (ap (λ (z : Row). set (wordsOf z) 9 left) (sym rb))
+    ap (λ (z : List ℕ). set (set z (i * 20 + 12) work) (i * 20 + 13) left) (laid-put-word s i 7 wait a few h (omega arith) refl)
+    ∙ ap (λ (z : List ℕ). set z (i * 20 + 13) left)
+    (laid-put-word sa i 9 work b (omega arith) (omega arith) (omega arith) (ap (λ (z : Row). set (wordsOf z) 9 work) (sym ra)))
+    ∙ laid-put-word sb i 10 left c (omega arith) (omega arith) (omega arith) (ap (λ (z : Row). set (wordsOf z) 10 left) (sym rb))
     ∙ ap (λ (z : List Row). laid (record { time = s .time; idle = s .idle; rows = z }))
     (set-twice (sa .rows) i b c ∙ set-twice (s .rows) i a c)
 
@@ -248,7 +249,7 @@ state-laid s = λ j. record { time = s .time; idle = s .idle; rows = same j }
         at : (i : ℕ) → i < length (s .rows) → getD (build (rowAt (laid s)) (length (s .rows))) i noRow ≡ getD (s .rows) i noRow
         at i h = build-at (rowAt (laid s)) (length (s .rows)) i noRow h ∙ laid-row s i h
 
-module _ (words : List ℕ) (long : length words ≡ 611) (few : getD words 0 0 ≤ 32) where
+module _ (words : List ℕ) (long : length words ≡ 643) (few : getD words 0 0 ≤ 32) where
   n-rows : ℕ
   n-rows = getD words 0 0
 
@@ -260,42 +261,42 @@ module _ (words : List ℕ) (long : length words ≡ 611) (few : getD words 0 0 
   said-length = build-length (rowAt words) (getD words 0 0)
 
   -- a word of a row
-  in-row : (i j : ℕ) → i < n-rows → j < 19 → getD words (i * 19 + (3 + j)) 0 ≡ getD (laid (stateOf words)) (i * 19 + (3 + j)) 0
+  in-row : (i j : ℕ) → i < n-rows → j < 20 → getD words (i * 20 + (3 + j)) 0 ≡ getD (laid (stateOf words)) (i * 20 + (3 + j)) 0
   unfolding said stateOf n-rows
   in-row i j h l =
       sym
       (laid-word (stateOf words) i j (omega (arith, said-length)) l
       ∙ ap (λ (z : Row). getD (wordsOf z) j 0) (build-at (rowAt words) (getD words 0 0) i noRow h)
-      ∙ word-of-row (λ j. getD words (i * 19 + (3 + j)) 0) j l)
+      ∙ word-of-row (λ j. getD words (i * 20 + (3 + j)) 0) j l)
 
   -- a word past the last row
-  past-rows : (p : ℕ) → n-rows * 19 ≤ p → p < 608 → getD (laid (stateOf words)) (suc (suc (suc p))) 0 ≡ 0
+  past-rows : (p : ℕ) → n-rows * 20 ≤ p → p < 640 → getD (laid (stateOf words)) (suc (suc (suc p))) 0 ≡ 0
   unfolding laid said n-rows
   past-rows p h l =
-      let e : p ≡ length (rowsLaid said) + (p - n-rows * 19) = omega (arith, rows-length said, said-length) in
+      let e : p ≡ length (rowsLaid said) + (p - n-rows * 20) = omega (arith, rows-length said, said-length) in
       rw e
-      (getD-append-add (rowsLaid said) (replicate ((32 - length said) * 19) 0) (p - n-rows * 19) 0
-      ∙ getD-replicate ((32 - length said) * 19) (p - n-rows * 19) 0 0 (omega (arith, said-length)))
+      (getD-append-add (rowsLaid said) (replicate ((32 - length said) * 20) 0) (p - n-rows * 20) 0
+      ∙ getD-replicate ((32 - length said) * 20) (p - n-rows * 20) 0 0 (omega (arith, said-length)))
 
-  module _ (clear : every (λ w. eqb w 0) (drop (3 + getD words 0 0 * 19) words) ≡ true) where
-    clear-at : (p : ℕ) → n-rows * 19 ≤ p → p < 608 → getD words (suc (suc (suc p))) 0 ≡ 0
+  module _ (clear : every (λ w. eqb w 0) (drop (3 + getD words 0 0 * 20) words) ≡ true) where
+    clear-at : (p : ℕ) → n-rows * 20 ≤ p → p < 640 → getD words (suc (suc (suc p))) 0 ≡ 0
     unfolding n-rows
     clear-at p h l =
-        let k = 3 + getD words 0 0 * 19 in
+        let k = 3 + getD words 0 0 * 20 in
         let e : suc (suc (suc p)) ≡ k + (suc (suc (suc p)) - k) = omega arith in
         rw e
         (sym (getD-drop k words (suc (suc (suc p)) - k) 0)
         ∙ eqb-true _ 0 (every-at (λ w. eqb w 0) (drop k words) (suc (suc (suc p)) - k) 0 clear (omega (arith, length-drop k words))))
 
-    word-same : (i : ℕ) → i < 611 → getD words i 0 ≡ getD (laid (stateOf words)) i 0
+    word-same : (i : ℕ) → i < 643 → getD words i 0 ≡ getD (laid (stateOf words)) i 0
     unfolding laid n-rows said stateOf
     word-same zero h = sym said-length
     word-same (suc zero) h = refl
     word-same (suc (suc zero)) h = refl
     word-same (suc (suc (suc p))) h =
-        elim (decLt p (n-rows * 19)) [
-          | yes q ↦ let e : suc (suc (suc p)) ≡ p / 19 * 19 + (3 + p % 19) = omega arith in
-              rw e (in-row (p / 19) (p % 19) (omega arith) (omega arith))
+        elim (decLt p (n-rows * 20)) [
+          | yes q ↦ let e : suc (suc (suc p)) ≡ p / 20 * 20 + (3 + p % 20) = omega arith in
+              rw e (in-row (p / 20) (p % 20) (omega arith) (omega arith))
           | no q ↦ clear-at p (omega arith) (omega arith) ∙ sym (past-rows p (omega arith) (omega arith))
         ]
 
@@ -311,22 +312,22 @@ module _ (words : List ℕ) (long : length words ≡ 611) (few : getD words 0 0 
 abbrev pub blank : ℕ → State
 blank n = record { time = 0; idle = 0; rows = replicate n noRow }
 
-zeros : (n : ℕ) → wordsOf noRow ++ replicate n 0 ≡ replicate (19 + n) 0
+zeros : (n : ℕ) → wordsOf noRow ++ replicate n 0 ≡ replicate (20 + n) 0
 unfolding wordsOf
-zeros n = replicate-append-replicate 19 n 0
+zeros n = replicate-append-replicate 20 n 0
 
-blank-rows : (n : ℕ) → rowsLaid (replicate n noRow) ≡ replicate (n * 19) 0
+blank-rows : (n : ℕ) → rowsLaid (replicate n noRow) ≡ replicate (n * 20) 0
 unfolding rowsLaid
 blank-rows zero = refl
 blank-rows (suc n) =
-    let e : 19 + n * 19 ≡ suc n * 19 = omega (arith, suc-mul n 19) in
-    ap (λ (z : List ℕ). wordsOf noRow ++ z) (blank-rows n) ∙ zeros (n * 19) ∙ ap (λ (z : ℕ). replicate z 0) e
+    let e : 20 + n * 20 ≡ suc n * 20 = omega (arith, suc-mul n 20) in
+    ap (λ (z : List ℕ). wordsOf noRow ++ z) (blank-rows n) ∙ zeros (n * 20) ∙ ap (λ (z : ℕ). replicate z 0) e
 
-pub blank-laid : (n : ℕ) → n ≤ 32 → set (replicate 611 0) 0 n ≡ laid (blank n)
+pub blank-laid : (n : ℕ) → n ≤ 32 → set (replicate 643 0) 0 n ≡ laid (blank n)
 unfolding laid
 blank-laid n h =
-    let e : n * 19 + (32 - n) * 19 ≡ 608 = omega arith in
+    let e : n * 20 + (32 - n) * 20 ≡ 640 = omega arith in
     ap (λ (z : ℕ). n ∷ 0 ∷ 0 ∷ replicate z 0) (sym e)
-    ∙ ap (λ (z : List ℕ). n ∷ 0 ∷ 0 ∷ z) (sym (replicate-append-replicate (n * 19) ((32 - n) * 19) 0))
-    ∙ ap (λ (z : List ℕ). n ∷ 0 ∷ 0 ∷ (z ++ replicate ((32 - n) * 19) 0)) (sym (blank-rows n))
-    ∙ ap (λ (z : ℕ). z ∷ 0 ∷ 0 ∷ (rowsLaid (replicate n noRow) ++ replicate ((32 - z) * 19) 0)) (sym (length-replicate n noRow))
+    ∙ ap (λ (z : List ℕ). n ∷ 0 ∷ 0 ∷ z) (sym (replicate-append-replicate (n * 20) ((32 - n) * 20) 0))
+    ∙ ap (λ (z : List ℕ). n ∷ 0 ∷ 0 ∷ (z ++ replicate ((32 - n) * 20) 0)) (sym (blank-rows n))
+    ∙ ap (λ (z : ℕ). z ∷ 0 ∷ 0 ∷ (rowsLaid (replicate n noRow) ++ replicate ((32 - z) * 20) 0)) (sym (length-replicate n noRow))

@@ -1,6 +1,7 @@
 pub mod Tests
 pub mod Ceil
 pub mod Pattern
+pub mod Red
 pub mod Bits
 pub mod Book
 pub mod Question

@@ -9,7 +9,7 @@ use borrow.Author.Tests.{eq-eqb, ne-eqb}
 use Rattle.law.specs.Sums.{bit, ceil, among}
 use Rattle.law.specs.Pattern.{mandatory, count, IsPattern}
 use Rattle.law.proofs.Ceil.{ceil-low, ceil-high, ceil-only, ceil-zero, ceil-add, ceil-turn, ceil-floor}
-use Rattle.law.proofs.Tests.{bit-same}
+use Rattle.law.proofs.Tests.{bit-same, bit-most}
 
 module _ (m k : ℕ) (hm : zero < m) (hk : m ≤ k) where
   -- job a is mandatory exactly when the multiple of k that reaches a x m stays below (a + 1) x m
@@ -75,6 +75,17 @@ module _ {m k : ℕ} {kind : ℕ → Bool} {counted : ℕ → ℕ} (p : IsPatter
   -- "k in a row hold exactly m"
   pub among-turn : (a : ℕ) → among kind a k ≡ m
   among-turn a = omega (arith, counted-among a k, p .turn a)
+
+  -- among q jobs there are at most q mandatory ones
+  pub counted-most : (q : ℕ) → counted q ≤ q
+  counted-most zero = omega (arith, p .none)
+  counted-most (suc q) = omega (arith, p .step q, counted-most q, bit-most (kind q))
+
+  pub counted-turns : (a n : ℕ) → counted (a + n * k) ≡ counted a + n * m
+  counted-turns a zero = simp (zero-mul, add-zero)
+  counted-turns a (suc n) =
+      let e : a + suc n * k ≡ a + n * k + k = omega (arith, suc-mul n k) in
+      omega (arith, ap counted e, p .turn (a + n * k), counted-turns a n, suc-mul n m)
 
   -- the pattern repeats after k jobs
   pub kind-turn : (a : ℕ) → kind (a + k) ≡ kind a

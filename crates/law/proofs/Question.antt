@@ -2,12 +2,12 @@
 use mathlib.Core.Bool.{Bool, true, false}
 use mathlib.Core.List.{List, [], _∷_}
 use mathlib.Core.Path.{_≡_, refl, sym, ap, _∙_}
-use Prim.Native.Nat.{ℕ, _/_, _%_, _^_, _≤_}
+use Prim.Native.Nat.{ℕ, _/_, _%_, _^_, _≤_, _<_}
 use native.Mathlib.Nat.{mod-lt}
 use native.Mathlib.Omega.{arith}
 use lib.Dec.{eqb, leb}
 use borrow.Author.Tests.{leb-true, le-leb}
-use Rattle.law.specs.Sums.{bit}
+use Rattle.law.specs.Sums.{bit, bitsTo}
 use Rattle.law.specs.Refusal.{Answer, accepted, refused, within}
 use Rattle.law.specs.Pattern.{InRange, mandatory, word, pairChecked}
 use Rattle.law.proofs.Bits.{bits-at}
@@ -34,12 +34,15 @@ bit-read : (b : Bool) → eqb (bit b) 1 ≡ b
 bit-read true = refl
 bit-read false = refl
 
+-- the bit of a place is what the test says of it
+pub bits-tell : (p : ℕ → Bool) (n a : ℕ) → a < n → eqb (bitsTo p n / 2 ^ a % 2) 1 ≡ p a
+bits-tell p n a h = ap (λ (z : ℕ). eqb z 1) (bits-at p n a h) ∙ bit-read (p a)
+
 -- the bit of job a's place is its kind
 pub word-tells : (m k a : ℕ) → InRange m k → eqb (word m k / 2 ^ (a % k) % 2) 1 ≡ mandatory m k a
 unfolding word
 word-tells m k a h =
-    ap (λ (z : ℕ). eqb z 1) (bits-at (mandatory m k) k (a % k) (mod-lt a (omega arith)))
-    ∙ bit-read (mandatory m k (a % k)) ∙ kind-place (even m k (h .m-low) (h .m-high)) a
+    bits-tell (mandatory m k) k (a % k) (mod-lt a (omega arith)) ∙ kind-place (even m k (h .m-low) (h .m-high)) a
 
 -- the two tests, each by what it leads to
 pub pair-k : (m k : ℕ) (next : Answer) → within 1 64 k ≡ false → pairChecked m k next ≡ refused 8 (0 ∷ [])

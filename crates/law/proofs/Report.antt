@@ -31,12 +31,12 @@ module _ (input : List ℕ) where
   printed-unread e = rw e
 
   module _ {values : List ℕ} {next : ℕ} (line : lineAt input 0 ticksKey ≡ found values next) where
-    pub printed-refused : {n : ℕ} {also : List ℕ} → readAnswer (drop next input) 192 ≡ refused n also
+    pub printed-refused : {n : ℕ} {also : List ℕ} → readAnswer (drop next input) 224 ≡ refused n also
         → printed input ≡ refusalPrinted n (placed next n also)
     unfolding printed
     printed-refused e = rw (line, e)
 
-    pub printed-run : {rows : List ℕ} → readAnswer (drop next input) 192 ≡ accepted rows
+    pub printed-run : {rows : List ℕ} → readAnswer (drop next input) 224 ≡ accepted rows
         → printed input ≡ runPrinted (tableOf (wordsRead (drop next input))) (head values)
     unfolding printed
     printed-run e = rw (line, e)
@@ -60,50 +60,50 @@ rows-refused-small tasks n also e = by (eqb (faulty tasks) (length tasks)) e
     by false e = omega (arith, faulty-most tasks, ap alsoIn e)
 
 answer-small : (text : List ℕ) (room : ℕ) (values : List ℕ) (next : ℕ) → lineAt text 0 rowsKey ≡ found values next → head values ≤ 32
-    → (f : Found) → rowsAt rowKeys text next (head values) ≡ f → (n : ℕ) (also : List ℕ) → rowsAnswer room f ≡ refused n also → head also ≤ 1580
+    → (f : Found) → rowsAt rowKeys text next (head values) ≡ f → (n : ℕ) (also : List ℕ) → rowsAnswer room f ≡ refused n also → head also ≤ 1836
 unfolding alsoIn
 answer-small text room values next line few (fault j) rows n also e =
     omega (arith, ap alsoIn e, rows-reach text next (head values), ap reached rows, line-reach text 0 rowsKey, ap reached line)
 answer-small text room values next line few (found words last) rows n also e =
     by (rowsChecked (tableOf words)) refl e
   where
-    short : (b : Bool) → orRefused b (refused 13 []) (accepted (length (tableOf words) ∷ [])) ≡ refused n also → head also ≤ 1580
+    short : (b : Bool) → orRefused b (refused 13 []) (accepted (length (tableOf words) ∷ [])) ≡ refused n also → head also ≤ 1836
     short true e = omega (arith, ap alsoIn e)
     short false e = omega (arith, ap alsoIn e)
 
     by : (a : Answer) → rowsChecked (tableOf words) ≡ a
-        → after a (orRefused (leb (length words) room) (refused 13 []) (accepted (length (tableOf words) ∷ []))) ≡ refused n also → head also ≤ 1580
+        → after a (orRefused (leb (length words) room) (refused 13 []) (accepted (length (tableOf words) ∷ []))) ≡ refused n also → head also ≤ 1836
     by (accepted vs) g e = short (leb (length words) room) e
     by (refused m more) g e =
         omega (arith, ap alsoIn e, rows-refused-small (tableOf words) m more g, table-length words, words-many text line rows)
 
-pub refused-small : (text : List ℕ) (room n : ℕ) (also : List ℕ) → readAnswer text room ≡ refused n also → head also ≤ 1580
+pub refused-small : (text : List ℕ) (room n : ℕ) (also : List ℕ) → readAnswer text room ≡ refused n also → head also ≤ 1836
 unfolding readAnswer alsoIn
 refused-small text room n also e = by (lineAt text 0 rowsKey) refl e
   where
     rest : (values : List ℕ) (next : ℕ) → lineAt text 0 rowsKey ≡ found values next → (a b : Bool) → leb (head values) 32 ≡ b
         → orRefused a (refused 2 []) (orRefused b (refused 3 []) (rowsAnswer room (rowsAt rowKeys text next (head values)))) ≡ refused n also
-        → head also ≤ 1580
+        → head also ≤ 1836
     rest values next line false b g e = omega (arith, ap alsoIn e)
     rest values next line true false g e = omega (arith, ap alsoIn e)
     rest values next line true true g e =
         answer-small text room values next line (leb-true (head values) 32 g) (rowsAt rowKeys text next (head values)) refl n also e
 
-    by : (f : Found) → lineAt text 0 rowsKey ≡ f → firstAnswer text room f ≡ refused n also → head also ≤ 1580
+    by : (f : Found) → lineAt text 0 rowsKey ≡ f → firstAnswer text room f ≡ refused n also → head also ≤ 1836
     by (fault j) g e = omega (arith, ap alsoIn e, line-reach text 0 rowsKey, ap reached g)
     by (found values next) g e = rest values next g (ltb 0 (head values)) (leb (head values) 32) refl e
 
--- An input may be cut behind its first 1,592 bytes: twelve of the first line, and what reading a task text looks at.
-pub printed-cut : (input : List ℕ) (m : ℕ) → 1592 ≤ m → printed (take m input) ≡ printed input
+-- An input may be cut behind its first 1,848 bytes: twelve of the first line, and what reading a task text looks at.
+pub printed-cut : (input : List ℕ) (m : ℕ) → 1848 ≤ m → printed (take m input) ≡ printed input
 unfolding printed
 printed-cut input m h =
     ap (textPrinted (take m input)) (line-short input m 0 ticksKey (omega arith)) ∙ by (lineAt input 0 ticksKey) refl
   where
-    text : (values : List ℕ) (next : ℕ) → next ≤ 12 → (a : Answer) → readAnswer (drop next input) 192 ≡ a
+    text : (values : List ℕ) (next : ℕ) → next ≤ 12 → (a : Answer) → readAnswer (drop next input) 224 ≡ a
         → answerPrinted (head values) next (wordsRead (take (m - next) (drop next input))) a ≡ answerPrinted (head values) next (wordsRead (drop next input)) a
     text values next l (refused n also) e = refl
     text values next l (accepted rows) e =
-        ap (λ (z : List ℕ). runPrinted (tableOf z) (head values)) (words-short (drop next input) (m - next) 192 rows (omega arith) e)
+        ap (λ (z : List ℕ). runPrinted (tableOf z) (head values)) (words-short (drop next input) (m - next) 224 rows (omega arith) e)
 
     by : (f : Found) → lineAt input 0 ticksKey ≡ f → textPrinted (take m input) f ≡ textPrinted input f
     by (fault j) e = refl
@@ -111,9 +111,9 @@ printed-cut input m h =
         let l : next ≤ 12 = omega (arith, line-reach input 0 ticksKey, ap reached e) in
         let cut : drop next (take m input) ≡ take (m - next) (drop next input) =
         let e : next + (m - next) ≡ m = omega arith in ap (λ (z : ℕ). drop next (take z input)) (sym e) ∙ sym (take-drop next (m - next) input) in
-        ap (λ (z : List ℕ). answerPrinted (head values) next (wordsRead z) (readAnswer z 192)) cut
-        ∙ ap (answerPrinted (head values) next (wordsRead (take (m - next) (drop next input)))) (read-short-text (drop next input) (m - next) 192 (omega arith))
-        ∙ text values next l (readAnswer (drop next input) 192) refl
+        ap (λ (z : List ℕ). answerPrinted (head values) next (wordsRead z) (readAnswer z 224)) cut
+        ∙ ap (answerPrinted (head values) next (wordsRead (take (m - next) (drop next input)))) (read-short-text (drop next input) (m - next) 224 (omega arith))
+        ∙ text values next l (readAnswer (drop next input) 224) refl
 
 -- the bytes that lines of numbers take, at most
 abbrev pub sizes : List (List ℕ) → ℕ
@@ -177,16 +177,16 @@ pub printed-most : (input : List ℕ) → length (printed input) ≤ 5120
 unfolding printed
 printed-most input = by (lineAt input 0 ticksKey)
   where
-    text : (values : List ℕ) (next : ℕ) (a : Answer) → readAnswer (drop next input) 192 ≡ a
+    text : (values : List ℕ) (next : ℕ) (a : Answer) → readAnswer (drop next input) 224 ≡ a
         → length (answerPrinted (head values) next (wordsRead (drop next input)) a) ≤ 5120
     text values next (refused n also) e = refusal-most n (placed next n also)
     text values next (accepted rows) e =
-        let t = read-write (drop next input) 192 rows e in
+        let t = read-write (drop next input) 224 rows e in
         run-most (tableOf (wordsRead (drop next input))) (head values) (omega (arith, table-length (wordsRead (drop next input)), t .high))
 
     by : (f : Found) → length (textPrinted input f) ≤ 5120
     by (fault j) = refusal-most 12 (j ∷ [])
-    by (found values next) = text values next (readAnswer (drop next input) 192) refl
+    by (found values next) = text values next (readAnswer (drop next input) 224) refl
 
 -- the printing program as a function, by its cases
 module _ (input room : List ℕ) where

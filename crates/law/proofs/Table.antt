@@ -2,17 +2,17 @@
 use mathlib.Core.Bool.{Bool, true, false, not}
 use mathlib.Core.List.{List, [], _∷_}
 use mathlib.Core.Logic.{_⊎_, inl, inr, ⊎-elim}
-use mathlib.Core.Path.{_≡_, refl, sym, ap, _∙_}
+use mathlib.Core.Path.{_≡_, refl, sym, ap, _∙_, subst}
 use Prim.Native.Nat.{ℕ, suc, _/_, _%_, _≤_, _<_}
 use native.Mathlib.Decide.{decLt}
 use native.Mathlib.Nat.{le-of-eq, ne-of-lt}
 use native.Mathlib.Omega.{arith}
 use lib.Dec.{leb, ltb, eqb}
 use lib.ListN.{length}
-use borrow.Author.Tests.{ltb-false, ltb-true, leb-true, eqb-true, eqb-false, le-ltb, eq-eqb, ne-eqb, not-true, not-false}
+use borrow.Author.Tests.{ltb-false, ltb-true, leb-true, eqb-true, eqb-false, le-leb, lt-ltb, le-ltb, eq-eqb, ne-eqb, not-true, not-false}
 use Rattle.law.specs.Sums.{pick, first}
 use Rattle.law.specs.Refusal.{Answer, accepted, refused, orRefused, within, codeOf}
-use Rattle.law.specs.Table.{Task, width, taskAt, tableOf, row, noTask, Ranged, WellFormed, repeated, faultOf, rowFault, faulty, rowsChecked, checked}
+use Rattle.law.specs.Table.{Task, width, taskAt, tableOf, row, noTask, Ranged, WellFormed, repeated, RowNumber, faultOf, rowFault, faulty, rowsChecked, checked}
 use Rattle.law.proofs.Question.{within-low, within-high, within-is, in-range}
 use Rattle.law.proofs.First.{first-before, first-found, first-high, first-is, build-length, build-at}
 
@@ -38,7 +38,8 @@ fault-none r twice e =
     let d = passed (within 1 (r .t) (r .d)) 5 _ (t .1) in
     let c = passed (within 1 65535 (r .c)) 6 _ (d .1) in
     let k = passed (within 1 64 (r .k)) 7 _ (c .1) in
-    let m = passed (within 1 (r .k) (r .m)) 8 _ (k .1) in (
+    let m = passed (within 1 (r .k) (r .m)) 8 _ (k .1) in
+    let p = passed (leb (r .p) 1) 15 _ (m .1) in (
       record {
         id-low = within-low 1 65535 (r .id) (id .0);
         id-high = within-high 1 65535 (r .id) (id .0);
@@ -49,8 +50,9 @@ fault-none r twice e =
         c-low = within-low 1 65535 (r .c) (c .0);
         c-high = within-high 1 65535 (r .c) (c .0);
         pair = in-range (r .m) (r .k) (k .0) (m .0);
+        p-high = leb-true (r .p) 1 (p .0);
       },
-      single twice (m .1),
+      single twice (p .1),
     )
   where
     single : (b : Bool) → pick {A = ℕ} b 10 0 ≡ 0 → b ≡ false
@@ -59,26 +61,32 @@ fault-none r twice e =
 
 -- the numbers of a row's faults
 Numbered : ℕ → Type 0
-Numbered x = (x ≡ 0) ⊎ ((4 ≤ x) × (x ≤ 10))
+Numbered x = (x ≡ 0) ⊎ (RowNumber x)
 
-numbered-pick : (b : Bool) (n x : ℕ) → 4 ≤ n → n ≤ 10 → Numbered x → Numbered (pick b n x)
+numbered-pick : (b : Bool) (n x : ℕ) → RowNumber n → Numbered x → Numbered (pick b n x)
 unfolding Numbered
-numbered-pick true n x l h q = inr (l, h)
-numbered-pick false n x l h q = q
+numbered-pick true n x h q = inr h
+numbered-pick false n x h q = q
 
 fault-numbered : (r : Task) (twice : Bool) → Numbered (faultOf r twice)
 unfolding faultOf Numbered
 fault-numbered r twice =
-    numbered-pick (not (within 1 65535 (r .id))) 4 _ (omega arith) (omega arith)
-    (numbered-pick (not (within 1 65535 (r .t))) 5 _ (omega arith) (omega arith)
-    (numbered-pick (not (within 1 (r .t) (r .d))) 6 _ (omega arith) (omega arith)
-    (numbered-pick (not (within 1 65535 (r .c))) 7 _ (omega arith) (omega arith)
-    (numbered-pick (not (within 1 64 (r .k))) 8 _ (omega arith) (omega arith)
-    (numbered-pick (not (within 1 (r .k) (r .m))) 9 _ (omega arith) (omega arith) (numbered-pick twice 10 0 (omega arith) (omega arith) (inl refl)))))))
+    numbered-pick (not (within 1 65535 (r .id))) 4 _ (inl (omega arith, omega arith))
+    (numbered-pick (not (within 1 65535 (r .t))) 5 _ (inl (omega arith, omega arith))
+    (numbered-pick (not (within 1 (r .t) (r .d))) 6 _ (inl (omega arith, omega arith))
+    (numbered-pick (not (within 1 65535 (r .c))) 7 _ (inl (omega arith, omega arith))
+    (numbered-pick (not (within 1 64 (r .k))) 8 _ (inl (omega arith, omega arith))
+    (numbered-pick (not (within 1 (r .k) (r .m))) 9 _ (inl (omega arith, omega arith))
+    (numbered-pick (not (leb (r .p) 1)) 16 _ (inr refl) (numbered-pick twice 10 0 (inl (omega arith, omega arith)) (inl refl))))))))
 
-pub fault-range : (r : Task) (twice : Bool) → (faultOf r twice ≡ 0 → ⊥) → (4 ≤ faultOf r twice) × (faultOf r twice ≤ 10)
+pub fault-range : (r : Task) (twice : Bool) → (faultOf r twice ≡ 0 → ⊥) → RowNumber (faultOf r twice)
 unfolding Numbered
 fault-range r twice h = ⊎-elim (λ e. absurd (h e)) (λ q. q) (fault-numbered r twice)
+
+-- none of the numbers from 11 to 15 is a row's
+pub row-number-not : {n : ℕ} → RowNumber n → 10 < n → n < 16 → ⊥
+row-number-not (inl h) l g = omega (arith, h .1)
+row-number-not (inr e) l g = omega arith
 
 -- the rows are refused at the first that has a fault, and accepted where none has
 pub rows-refused : (tasks : List Task) (i : ℕ) → faulty tasks ≡ i → i < length tasks
@@ -90,8 +98,8 @@ pub rows-accepted : (tasks : List Task) → faulty tasks ≡ length tasks → ro
 unfolding rowsChecked
 rows-accepted tasks e = rw (eq-eqb (faulty tasks) (length tasks) e)
 
--- so the rows are refused by the numbers 4 to 10 alone
-pub rows-number : (tasks : List Task) (n : ℕ) (also : List ℕ) → rowsChecked tasks ≡ refused n also → (4 ≤ n) × (n ≤ 10)
+-- so the rows are refused by the numbers of a row's faults alone
+pub rows-number : (tasks : List Task) (n : ℕ) (also : List ℕ) → rowsChecked tasks ≡ refused n also → RowNumber n
 unfolding faulty
 rows-number tasks n also e =
     elim (decLt (faulty tasks) (length tasks)) [
@@ -99,7 +107,7 @@ rows-number tasks n also e =
           let number : rowFault tasks (faulty tasks) ≡ n = ap codeOf (sym (rows-refused tasks (faulty tasks) refl h) ∙ e) in
           let range = fault-range (row tasks (faulty tasks)) (repeated tasks (faulty tasks))
           (eqb-false _ 0 (not-true _ (first-found (λ i. not (eqb (rowFault tasks i) 0)) 0 (length tasks) (omega arith)))) in
-          omega arith
+          subst RowNumber number range
       | no h ↦
           let clean = rows-accepted tasks (omega (arith, first-high (λ i. not (eqb (rowFault tasks i) 0)) 0 (length tasks))) in
           absurd (let z : _≡_ {A = ℕ} 0 1 = cc in omega arith)
@@ -148,7 +156,7 @@ no-fault r twice g e =
     (failed _ 6 _ (within-is 1 (r .t) (r .d) (g .d-low) (g .d-high))
     (failed _ 7 _ (within-is 1 65535 (r .c) (g .c-low) (g .c-high))
     (failed _ 8 _ (within-is 1 64 (r .k) (omega (arith, g .pair .m-low, g .pair .m-high)) (g .pair .k-high))
-    (failed _ 9 _ (within-is 1 (r .k) (r .m) (g .pair .m-low) (g .pair .m-high)) (rw e))))))
+    (failed _ 9 _ (within-is 1 (r .k) (r .m) (g .pair .m-low) (g .pair .m-high)) (failed _ 16 _ (le-leb (r .p) 1 (g .p-high)) (rw e)))))))
 
 pub well-formed-clean : (tasks : List Task) → WellFormed tasks → faulty tasks ≡ length tasks
 unfolding faulty repeated
@@ -191,3 +199,16 @@ checked-accepted words vs e =
           (omega (arith, table-length words, leb-true (length words / width) 32 (few .0)));
       rows = cc (clean .1);
     }
+
+-- and words of whole rows whose table is well formed are accepted
+pub well-formed-accepted : (words : List ℕ) → length words % width ≡ 0 → WellFormed (tableOf words)
+    → checked words ≡ accepted (length (tableOf words) ∷ [])
+unfolding checked
+well-formed-accepted words e w =
+    let many = table-length words in
+    rw (
+      eq-eqb (length words % width) 0 e,
+      lt-ltb 0 (length words / width) (omega (arith, w .rows-low)),
+      le-leb (length words / width) 32 (omega (arith, w .rows-high)),
+    )
+    (rows-accepted (tableOf words) (well-formed-clean (tableOf words) w))

@@ -1,4 +1,4 @@
--- The longest text: a row's lines have 43 bytes at most and the first line 8, so a well-formed table's text has 1,384 at most; and one has so many.
+-- The longest text: a row's lines have 47 bytes at most and the first line 8, so a well-formed table's text has 1,512 at most; and one has so many.
 use mathlib.Core.List.{List, [], _∷_, _++_, map}
 use mathlib.Core.Path.{_≡_, refl, subst}
 use Prim.Native.Nat.{ℕ, zero, suc, _+_, _*_, _/_, _≤_, _<_}
@@ -13,31 +13,31 @@ use Rattle.law.proofs.Words.{Rows, none, more, task-behind, table-rows}
 use Rattle.law.proofs.TextDecimal.{decimal-longest}
 
 -- the lines of a row, before those of the rows behind it
-row-longest : (id c t d m k : ℕ) (rest : List ℕ) (keys : List (List ℕ)) → Ranged (taskAt (id ∷ c ∷ t ∷ d ∷ m ∷ k ∷ rest) 0)
-    → length (lines (rowKeys ++ keys) (map decimal (id ∷ c ∷ t ∷ d ∷ m ∷ k ∷ rest))) ≤ 43 + length (lines keys (map decimal rest))
+row-longest : (id c t d m k p : ℕ) (rest : List ℕ) (keys : List (List ℕ)) → Ranged (taskAt (id ∷ c ∷ t ∷ d ∷ m ∷ k ∷ p ∷ rest) 0)
+    → length (lines (rowKeys ++ keys) (map decimal (id ∷ c ∷ t ∷ d ∷ m ∷ k ∷ p ∷ rest))) ≤ 47 + length (lines keys (map decimal rest))
 unfolding lines taskOf
-row-longest id c t d m k rest keys r =
+row-longest id c t d m k p rest keys r =
     let small : (v : ℕ) → v ≤ 65535 → length (decimal v) ≤ 5 = λ v h. decimal-longest 4 v (omega arith) in
     let few : (v : ℕ) → v ≤ 64 → length (decimal v) ≤ 2 = λ v h. decimal-longest 1 v (omega arith) in
     let one = small id (r .id-high) in
     let two = small c (r .c-high) in
     let three = small t (r .t-high) in
     let four = small d (omega arith) in
-    simp length-append (omega (arith, one, two, three, four, few m (omega arith), few k (r .pair .k-high)))
+    simp length-append (omega (arith, one, two, three, four, few m (omega arith), few k (r .pair .k-high), decimal-longest 0 p (omega (arith, r .p-high))))
 
 rows-longest : (n : ℕ) (words : List ℕ) → Rows n words → ((i : ℕ) → i < n → Ranged (taskAt words i))
-    → length (lines (keysOf rowKeys n) (map decimal words)) ≤ n * 43
+    → length (lines (keysOf rowKeys n) (map decimal words)) ≤ n * 47
 unfolding keysOf lines
 rows-longest n words none ranged = omega arith
-rows-longest n words (more id c t d m k {n = less} {rest = rest} rows) ranged =
+rows-longest n words (more id c t d m k p {n = less} {rest = rest} rows) ranged =
     omega (
       arith,
-      row-longest id c t d m k rest (keysOf rowKeys less) (ranged 0 (omega arith)),
-      rows-longest less rest rows (λ i h. subst Ranged (task-behind id c t d m k rest i) (ranged (suc i) (omega arith))),
+      row-longest id c t d m k p rest (keysOf rowKeys less) (ranged 0 (omega arith)),
+      rows-longest less rest rows (λ i h. subst Ranged (task-behind id c t d m k p rest i) (ranged (suc i) (omega arith))),
     )
 
--- "The longest accepted text is 1,384 bytes."
-pub text-longest : (words vs : List ℕ) → checked words ≡ accepted vs → length (textOf rowKeys words) ≤ 1384
+-- "The longest accepted text is 1,512 bytes."
+pub text-longest : (words vs : List ℕ) → checked words ≡ accepted vs → length (textOf rowKeys words) ≤ 1512
 unfolding textOf lines
 text-longest words vs e =
     let a = table-rows words vs e in
@@ -47,16 +47,16 @@ text-longest words vs e =
 -- 32 rows of the longest values
 pub longest : ℕ → List ℕ
 longest zero = []
-longest (suc n) = (10000 + n) ∷ 65535 ∷ 65535 ∷ 65535 ∷ 64 ∷ 64 ∷ longest n
+longest (suc n) = (10000 + n) ∷ 65535 ∷ 65535 ∷ 65535 ∷ 64 ∷ 64 ∷ 1 ∷ longest n
 
 pub longest-accepted : checked (longest 32) ≡ accepted (32 ∷ [])
 unfolding longest checked rowsChecked tableOf taskOf build faulty faultOf repeated firstFrom within
 longest-accepted = refl
 
-pub longest-words : length (longest 32) ≡ 192
+pub longest-words : length (longest 32) ≡ 224
 unfolding longest
 longest-words = refl
 
-pub longest-reached : length (textOf rowKeys (longest 32)) ≡ 1384
+pub longest-reached : length (textOf rowKeys (longest 32)) ≡ 1512
 unfolding longest textOf decimal decimalOf lines keysOf
 longest-reached = refl

@@ -16,7 +16,7 @@ use Rattle.law.specs.Table.{tableOf, rowsChecked}
 use Rattle.law.specs.Text.{rowsKey, rowKeys, keysOf, isValue, numberOf, lines, IsText, Begins, FaultAt}
 use Rattle.law.specs.Reading.{found, fault, valuesOf, lineAt, linesAt, rowsAt, textRead, rowsAnswer, firstAnswer, readAnswer}
 use Rattle.law.proofs.Tests.{both-left, both-right, both-true}
-use Rattle.law.proofs.Table.{rows-number}
+use Rattle.law.proofs.Table.{rows-number, row-number-not}
 use Rattle.law.proofs.TextLine.{isKey, reached, Line, line-whole, line-sound, line-stuck, line-local}
 use Rattle.law.proofs.TextLines.{came, fell, outcome, came-fell, line-ahead, Lines, lines-whole, lines-sound, lines-stuck, whole-behind, line-before, zeros, zeros-good, zeros-many, lines-front, keys-bytes, lines-low, lines-local}
 
@@ -305,7 +305,9 @@ rows-not-twelve room next words also e = by (rowsChecked (tableOf words)) refl e
     by : (a : Answer) → rowsChecked (tableOf words) ≡ a
         → after a (orRefused (leb (length words) room) (refused 13 []) (accepted (length (tableOf words) ∷ []))) ≡ refused 12 also → ⊥
     by (accepted vs) c e = absurd (omega (arith, ap codeOf (passed-by (leb (length words) room) 13 also _ (λ q. omega arith) e)))
-    by (refused n vs) c e = absurd (omega (arith, ap codeOf e, rows-number (tableOf words) n vs c .1))
+    by (refused n vs) c e =
+        let twelve : n ≡ 12 = ap codeOf e in
+        absurd (row-number-not (rows-number (tableOf words) n vs c) (omega arith) (omega arith))
 
 rows-twelve : (text : List ℕ) (room at n j : ℕ) → rowsAnswer room (rowsAt rowKeys text at n) ≡ refused 12 (j ∷ [])
     → rowsAt rowKeys text at n ≡ fault j

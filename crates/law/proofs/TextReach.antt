@@ -55,7 +55,7 @@ spans-append : (keys more : List (List ℕ)) → spans (keys ++ more) ≡ spans 
 spans-append [] more = omega arith
 spans-append (key ∷ keys) more = omega (arith, spans-append keys more)
 
-pub spans-rows : (n : ℕ) → spans (keysOf rowKeys n) ≡ n * 49
+pub spans-rows : (n : ℕ) → spans (keysOf rowKeys n) ≡ n * 57
 unfolding keysOf
 spans-rows zero = omega arith
 spans-rows (suc n) = spans-append rowKeys (keysOf rowKeys n) ∙ omega (arith, spans-rows n)
@@ -69,7 +69,7 @@ ended-reach text (found values next) = by (eqb next (length text))
     by true = omega arith
     by false = omega arith
 
-pub rows-reach : (text : List ℕ) (at n : ℕ) → reached (rowsAt rowKeys text at n) ≤ suc (at + n * 49)
+pub rows-reach : (text : List ℕ) (at n : ℕ) → reached (rowsAt rowKeys text at n) ≤ suc (at + n * 57)
 unfolding rowsAt
 rows-reach text at n =
     omega (arith, ended-reach text (linesAt text at (keysOf rowKeys n)), lines-reach text at (keysOf rowKeys n), spans-rows n)
@@ -93,15 +93,15 @@ module _ (text : List ℕ) (m : ℕ) where
         | no l ↦ ap (λ (z : List ℕ). pick (eqb next (length z)) (found values next) (fault next)) (take-all m text (omega arith))
       ]
 
-  pub rows-short : (at n : ℕ) → suc (at + n * 49) ≤ m → rowsAt rowKeys (take m text) at n ≡ rowsAt rowKeys text at n
+  pub rows-short : (at n : ℕ) → suc (at + n * 57) ≤ m → rowsAt rowKeys (take m text) at n ≡ rowsAt rowKeys text at n
   unfolding rowsAt
   rows-short at n h =
       let reach : reached (linesAt text at (keysOf rowKeys n)) < m = omega (arith, lines-reach text at (keysOf rowKeys n), spans-rows n) in
       ap (ended (take m text)) (lines-local text (take m text) m same at (keysOf rowKeys n) (omega arith))
       ∙ ended-short (linesAt text at (keysOf rowKeys n)) reach
 
--- "1,580": the first line has eleven bytes at most, 32 rows have 49 each, and one place more is looked at
-pub read-short-text : (text : List ℕ) (m room : ℕ) → 1580 ≤ m → readAnswer (take m text) room ≡ readAnswer text room
+-- "1,836": the first line has eleven bytes at most, 32 rows have 57 each, and one place more is looked at
+pub read-short-text : (text : List ℕ) (m room : ℕ) → 1836 ≤ m → readAnswer (take m text) room ≡ readAnswer text room
 unfolding readAnswer
 read-short-text text m room h =
     ap (firstAnswer (take m text) room) (line-short text m 0 rowsKey (omega arith)) ∙ by (lineAt text 0 rowsKey) refl
@@ -118,7 +118,7 @@ read-short-text text m room h =
         ap (orRefused (ltb 0 (head values)) (refused 2 []))
         (rows values next (omega (arith, line-reach text 0 rowsKey, ap reached e)) (leb (head values) 32) refl)
 
-pub words-short : (text : List ℕ) (m room : ℕ) (vs : List ℕ) → 1580 ≤ m → readAnswer text room ≡ accepted vs → wordsRead (take m text) ≡ wordsRead text
+pub words-short : (text : List ℕ) (m room : ℕ) (vs : List ℕ) → 1836 ≤ m → readAnswer text room ≡ accepted vs → wordsRead (take m text) ≡ wordsRead text
 words-short text m room vs h e =
     let s = read-says text room vs e in
     let l = line-short text m 0 rowsKey (omega arith) ∙ s .line in

@@ -96,7 +96,7 @@ pub record Trip (text : List ℕ) (room : ℕ) (vs : List ℕ) : Type 0 where
   pub low : 1 ≤ length (wordsRead text) / width
   pub high : length (wordsRead text) / width ≤ 32
   pub fits : length (wordsRead text) ≤ room
-  pub most : length text ≤ 1384
+  pub most : length text ≤ 1512
 
 -- every well-formed table's text reads back to its words
 module _ (words vs : List ℕ) (good : checked words ≡ accepted vs) where
@@ -145,8 +145,8 @@ read-write-answer text room vs e r h =
     write-accepted (wordsRead text) r (t .good) (omega (arith, ap length (t .written)))
     ∙ ap (λ (l : List ℕ). accepted (length l ∷ [])) (t .written)
 
--- "The longest accepted text is 1,384 bytes.": no accepted text is longer (`most` of a trip), and this one is accepted
-pub longest-read : readAnswer (textOf rowKeys (longest 32)) 192 ≡ accepted (32 ∷ [])
+-- "The longest accepted text is 1,512 bytes.": no accepted text is longer (`most` of a trip), and this one is accepted
+pub longest-read : readAnswer (textOf rowKeys (longest 32)) 224 ≡ accepted (32 ∷ [])
 longest-read =
-    write-read (longest 32) (32 ∷ []) longest-accepted 192 (omega (arith, longest-words)) .0
+    write-read (longest 32) (32 ∷ []) longest-accepted 224 (omega (arith, longest-words)) .0
     ∙ ap (λ (n : ℕ). accepted ((n / width) ∷ [])) longest-words

@@ -1,7 +1,7 @@
 -- The verdict: loads grow with t, so a search may leap from t to the load at t; loads stay far below 64 bits; and the verdict by its cases.
 use mathlib.Core.Bool.{Bool, true, false, not}
 use mathlib.Core.List.{List, [], _∷_, _++_}
-use mathlib.Core.Path.{_≡_, refl, ap}
+use mathlib.Core.Path.{_≡_, refl, ap, _∙_}
 use Prim.Native.Nat.{ℕ, zero, suc, _+_, _-_, _*_, _/_, _%_, _≤_, _<_}
 use native.Mathlib.Decide.{decLt, ℕ-discrete}
 use native.Mathlib.Nat.{mul-le-mul-left, mul-le-mul, mul-one}
@@ -9,30 +9,27 @@ use native.Mathlib.Omega.{arith}
 use lib.Dec.{leb, ltb, eqb}
 use lib.ListN.{length, drop}
 use borrow.Author.Tests.{le-leb, lt-leb, leb-true, eq-eqb, ne-eqb, eqb-false}
-use Rattle.law.specs.Sums.{bit, ceil}
+use Rattle.law.specs.Sums.{pick, ceil}
 use Rattle.law.specs.Refusal.{Answer, accepted, refused, orRefused, after}
-use Rattle.law.specs.Pattern.{IsPattern, mandatory}
-use Rattle.law.specs.Table.{Task, row, width, kindOf, countOf, Ranged, WellFormed, tableOf, repeated, faultOf, rowFault, faulty, rowsChecked, checked}
+use Rattle.law.specs.Pattern.{IsPattern, mandatory, count, deeplyRed, redCount}
+use Rattle.law.specs.Table.{Task, row, width, isRed, kindOf, countOf, Ranged, WellFormed, tableOf, repeated, faultOf, rowFault, faulty, rowsChecked, checked}
 use Rattle.law.specs.Verdict.{demand, load, fitsAt, response, fits, misfit, admitted, responses, verdict, verdictRoom}
 use Rattle.law.proofs.Ceil.{ceil-mono, ceil-least}
-use Rattle.law.proofs.Pattern.{even, counted-mono}
+use Rattle.law.proofs.Pattern.{even, counted-mono, counted-most}
+use Rattle.law.proofs.Red.{red}
 use Rattle.law.proofs.First.{first-is, first-high}
 use Rattle.law.proofs.Sums.{sum-mono}
-use Rattle.law.proofs.Table.{fault-range, passed-on}
+use Rattle.law.proofs.Table.{rows-number, row-number-not, passed-on}
 
--- the pattern of a row keeps the laws of a pattern: the one place that knows which pattern it is
+-- the pattern of a row keeps the laws of a pattern: the one place that knows which patterns there are
 pub pattern-of : {r : Task} → Ranged r → IsPattern (r .m) (r .k) (kindOf r) (countOf r)
 unfolding kindOf countOf
-pattern-of {r} h = even (r .m) (r .k) (h .pair .m-low) (h .pair .m-high)
-
--- among q jobs there are at most q mandatory ones
-pub counted-most : {m k : ℕ} {kind : ℕ → Bool} {counted : ℕ → ℕ} → IsPattern m k kind counted → (q : ℕ) → counted q ≤ q
-counted-most p zero = omega (arith, p .none)
-counted-most {kind = kind} p (suc q) = omega (arith, p .step q, counted-most p q, small (kind q))
+pattern-of {r} h = by (isRed r)
   where
-    small : (b : Bool) → bit b ≤ 1
-    small true = omega arith
-    small false = omega arith
+    by : (b : Bool)
+        → IsPattern (r .m) (r .k) (λ a. pick b (deeplyRed (r .m) (r .k) a) (mandatory (r .m) (r .k) a)) (λ q. pick b (redCount (r .m) (r .k) q) (count (r .m) (r .k) q))
+    by true = red (r .m) (r .k) (h .pair .m-low) (h .pair .m-high)
+    by false = even (r .m) (r .k) (h .pair .m-low) (h .pair .m-high)
 
 module _ (r : Task) (h : Ranged r) where
   pub demand-mono : (s t : ℕ) → s ≤ t → demand r s ≤ demand r t
@@ -167,33 +164,29 @@ pub record LateBy (words : List ℕ) (i : ℕ) : Type 0 where
   pub is : misfit (tableOf words) ≡ i
   pub in-table : i < length (tableOf words)
 
--- the number of a refusal; the checks of words give 1 to 10 alone
+-- the number of a refusal; the checks of words never give 11
 numbered : Answer → ℕ
 numbered (accepted vs) = 0
 numbered (refused n also) = n
 
-rows-number : (tasks : List Task) → numbered (rowsChecked tasks) ≤ 10
-unfolding rowsChecked numbered
-rows-number tasks =
-    by (eqb (faulty tasks) (length tasks))
+rows-not-late : (tasks : List Task) → numbered (rowsChecked tasks) ≡ 11 → ⊥
+unfolding numbered
+rows-not-late tasks = by (rowsChecked tasks) refl
   where
-    small : (r : Task) (twice : Bool) → faultOf r twice ≤ 10
-    small r twice =
-        elim (ℕ-discrete (faultOf r twice) 0) [ yes e ↦ omega arith | no h ↦ fault-range r twice h .1 ]
+    by : (a : Answer) → rowsChecked tasks ≡ a → numbered a ≡ 11 → ⊥
+    by (accepted vs) e f = omega arith
+    by (refused n also) e f = row-number-not (rows-number tasks n also e) (omega arith) (omega arith)
 
-    by : (b : Bool) → numbered (orRefused b (refused (rowFault tasks (faulty tasks)) (faulty tasks ∷ [])) (accepted (length tasks ∷ []))) ≤ 10
-    by true = omega arith
-    by false = small (row tasks (faulty tasks)) (repeated tasks (faulty tasks))
-
-checked-number : (words : List ℕ) → numbered (checked words) ≤ 10
+checked-not-late : (words : List ℕ) → numbered (checked words) ≡ 11 → ⊥
 unfolding checked numbered
-checked-number words = three (eqb (length words % width) 0) (ltb 0 (length words / width)) (leb (length words / width) 32)
+checked-not-late words = three (eqb (length words % width) 0) (ltb 0 (length words / width)) (leb (length words / width) 32)
   where
-    three : (a b c : Bool) → numbered (orRefused a (refused 1 []) (orRefused b (refused 2 []) (orRefused c (refused 3 []) (rowsChecked (tableOf words))))) ≤ 10
-    three true true true = rows-number (tableOf words)
-    three true true false = omega arith
-    three true false c = omega arith
-    three false b c = omega arith
+    three : (a b c : Bool)
+        → numbered (orRefused a (refused 1 []) (orRefused b (refused 2 []) (orRefused c (refused 3 []) (rowsChecked (tableOf words))))) ≡ 11 → ⊥
+    three true true true e = rows-not-late (tableOf words) e
+    three true true false e = omega arith
+    three true false c e = omega arith
+    three false b c e = omega arith
 
 pub late-says : (words : List ℕ) (room i : ℕ) → verdict words room ≡ refused 11 (i ∷ []) → LateBy words i
 unfolding verdict numbered
@@ -217,4 +210,4 @@ late-says words room i e = by (checked words) refl e
     by : (a : Answer) → checked words ≡ a
         → after a (orRefused (leb (length table) room) (refused 13 []) (orRefused (admitted table) (refused 11 (misfit table ∷ [])) (accepted (length table ∷ [])))) ≡ refused 11 (i ∷ []) → LateBy words i
     by (accepted vs) g f = roomy vs g (leb (length table) room) f
-    by (refused n also) g f = absurd (omega (arith, checked-number words, ap numbered g, ap numbered f))
+    by (refused n also) g f = absurd (checked-not-late words (ap numbered g ∙ ap numbered f))

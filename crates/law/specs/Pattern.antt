@@ -2,9 +2,9 @@
 use mathlib.Core.Bool.{Bool, true}
 use mathlib.Core.List.{List, [], _∷_, _++_}
 use mathlib.Core.Path.{_≡_}
-use Prim.Native.Nat.{ℕ, zero, suc, _+_, _-_, _*_, _/_, _≤_}
-use lib.Dec.{eqb}
-use Rattle.law.specs.Sums.{bit, ceil, bitsTo}
+use Prim.Native.Nat.{ℕ, zero, suc, _+_, _-_, _*_, _/_, _%_, _≤_}
+use lib.Dec.{eqb, ltb}
+use Rattle.law.specs.Sums.{bit, smaller, ceil, bitsTo}
 use Rattle.law.specs.Refusal.{Answer, accepted, refused, orRefused, within}
 
 -- "k 1..64; m 1..k"
@@ -21,6 +21,14 @@ mandatory m k a = eqb a (ceil (a * m) k * k / m)
 -- (`among-first`, proofs/Pattern)
 unfoldable pub count : ℕ → ℕ → ℕ → ℕ
 count m k q = ceil (q * m) k
+
+-- Document 02, 3/14, the deeply-red pattern: "the first m of every k jobs are mandatory"
+unfoldable pub deeplyRed : ℕ → ℕ → ℕ → Bool
+deeplyRed m k a = ltb (a % k) m
+
+-- "The mandatory count of the first q jobs is then floor(q / k) x m plus the smaller of q mod k and m". That it is, is proved (`red`, proofs/Pattern)
+unfoldable pub redCount : ℕ → ℕ → ℕ → ℕ
+redCount m k q = q / k * m + smaller (q % k) m
 
 -- "one 64-bit word for each pair (m,k)": "Bit a, for a below k, is set exactly when job a is mandatory; higher bits are clear"
 unfoldable pub word : ℕ → ℕ → ℕ
@@ -57,7 +65,8 @@ unfoldable pub pairWord : ℕ → ℕ → Answer
 pairWord m k = pairChecked m k (accepted (word m k ∷ []))
 
 -- What everything above a pattern may use of it: `kind` tells which jobs are mandatory, `counted q` how many of the first q are.
--- "the first q jobs hold exactly .. mandatory ones; q jobs in a row anywhere hold no more than that ..; k in a row hold exactly m"
+-- "the first q jobs hold exactly .. mandatory ones; q jobs in a row anywhere hold no more than that ..; k in a row hold exactly m".
+-- Document 02, 3/14: "What demand 3 needs of a pattern is proved once over both" kinds
 pub record IsPattern (m k : ℕ) (kind : ℕ → Bool) (counted : ℕ → ℕ) : Type 0 where
   pub none : counted 0 ≡ 0
   pub step : (a : ℕ) → counted (suc a) ≡ counted a + bit (kind a)

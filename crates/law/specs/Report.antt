@@ -98,10 +98,10 @@ abbrev pub answerPrinted : ℕ → ℕ → List ℕ → Answer → List ℕ
 answerPrinted n start words (accepted rows) = runPrinted (tableOf words) n
 answerPrinted n start words (refused number also) = refusalPrinted number (placed start number also)
 
--- the task text behind the first line; 192 words are room for every table
+-- the task text behind the first line; 224 words are room for every table
 abbrev pub textPrinted : List ℕ → Found → List ℕ
 textPrinted input (found values next) =
-    answerPrinted (head values) next (wordsRead (drop next input)) (readAnswer (drop next input) 192)
+    answerPrinted (head values) next (wordsRead (drop next input)) (readAnswer (drop next input) 224)
 textPrinted input (fault j) = refusalPrinted 12 (j ∷ [])
 
 -- "It reads standard input: a line `ticks=N` (same value rule; a fault there is 12), then a task text"

@@ -52,13 +52,13 @@ stateWell s =
 
 -- A saved state is 64-bit words: the number of rows, the time, the idle count, then for each of 32 rows its words in this order
 abbrev pub rowWords : ℕ
-rowWords = 19
+rowWords = 20
 
 abbrev pub headWords : ℕ
 headWords = 3
 
 abbrev pub stateWords : ℕ
-stateWords = 611
+stateWords = 643
 
 unfoldable pub rowOf : (ℕ → ℕ) → Row
 rowOf word =
@@ -66,22 +66,22 @@ rowOf word =
       core =
           record {
             task = taskOf word;
-            wait = word 6;
-            place = word 7;
-            work = word 8;
-            left = word 9;
-            kind = word 10;
+            wait = word 7;
+            place = word 8;
+            work = word 9;
+            left = word 10;
+            kind = word 11;
           };
       tally =
           record {
-            window = word 11;
-            released = word 12;
-            mm = word 13;
-            mx = word 14;
-            om = word 15;
-            ox = word 16;
-            broken = word 17;
-            held = word 18;
+            window = word 12;
+            released = word 13;
+            mm = word 14;
+            mx = word 15;
+            om = word 16;
+            ox = word 17;
+            broken = word 18;
+            held = word 19;
           };
     }
 
@@ -106,6 +106,7 @@ wordsOf r =
     ∷ r .core .task .d
     ∷ r .core .task .m
     ∷ r .core .task .k
+    ∷ r .core .task .p
     ∷ r .core .wait
     ∷ r .core .place
     ∷ r .core .work

@@ -2,6 +2,7 @@
 use mathlib.Core.Bool.{Bool, true, false}
 use mathlib.Core.List.{List, [], _∷_, _++_}
 use Prim.Native.Nat.{ℕ, zero, suc, _+_, _-_, _*_, _/_, _^_}
+use lib.Dec.{leb}
 
 -- 1 for yes, 0 for no
 abbrev pub bit : Bool → ℕ
@@ -17,6 +18,10 @@ both false b = false
 abbrev pub pick {ℓ} : {A : Type ℓ} → Bool → A → A → A
 pick true a b = a
 pick false a b = b
+
+-- the smaller of two numbers
+abbrev pub smaller : ℕ → ℕ → ℕ
+smaller a b = pick (leb a b) a b
 
 -- the quotient rounded up, for b of at least 1
 unfoldable pub ceil : ℕ → ℕ → ℕ

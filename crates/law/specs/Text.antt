@@ -13,10 +13,17 @@ use Rattle.law.specs.Refusal.{within}
 abbrev pub rowsKey : List ℕ
 rowsKey = 114 ∷ 111 ∷ 119 ∷ 115 ∷ 61 ∷ []
 
--- "then for each row the lines id, c, t, d, m, k in that order": id= c= t= d= m= k=. The list stands only here
+-- "then for each row the lines id, c, t, d, m, k in that order", "and a seventh text line `p=`": id= c= t= d= m= k= p=. The list stands only here
 abbrev pub rowKeys : List (List ℕ)
 rowKeys =
-    (105 ∷ 100 ∷ 61 ∷ []) ∷ (99 ∷ 61 ∷ []) ∷ (116 ∷ 61 ∷ []) ∷ (100 ∷ 61 ∷ []) ∷ (109 ∷ 61 ∷ []) ∷ (107 ∷ 61 ∷ []) ∷ []
+    (105 ∷ 100 ∷ 61 ∷ [])
+    ∷ (99 ∷ 61 ∷ [])
+    ∷ (116 ∷ 61 ∷ [])
+    ∷ (100 ∷ 61 ∷ [])
+    ∷ (109 ∷ 61 ∷ [])
+    ∷ (107 ∷ 61 ∷ [])
+    ∷ (112 ∷ 61 ∷ [])
+    ∷ []
 
 -- the keys of n rows, one row after the other
 unfoldable pub keysOf : List (List ℕ) → ℕ → List (List ℕ)

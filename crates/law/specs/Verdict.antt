@@ -8,7 +8,8 @@ use Rattle.law.specs.Sums.{ceil, sum, firstFrom, first, build}
 use Rattle.law.specs.Refusal.{Answer, accepted, refused, orRefused, after, lent}
 use Rattle.law.specs.Table.{Task, row, countOf, tableOf, checked}
 
--- "C of j times ceil(q x m / k), with q = ceil(t / T) and m, k, T of row j"
+-- "C of j times ceil(q x m / k), with q = ceil(t / T) and m, k, T of row j"; document 02, 3/14: "the verdict uses the count of each row's own
+-- pattern"
 unfoldable pub demand : Task → ℕ → ℕ
 demand r t = r .c * countOf r (ceil t (r .t))
 

@@ -23,7 +23,7 @@ use Rattle.promise.specs.Promised.{reported, rowsIn, rowIn, tookTicks, d
 use Rattle.promise.proofs.FirstMiss.{first-miss}
 use Rattle.promise.proofs.Runs.{runs, in-pieces, seen-is, took-is}
 
-admitted-all : (tasks : List Task) → admitted tasks ≡ true → misfit tasks ≡ length tasks
+pub admitted-all : (tasks : List Task) → admitted tasks ≡ true → misfit tasks ≡ length tasks
 unfolding admitted
 admitted-all tasks e = eqb-true (misfit tasks) (length tasks) e
 
@@ -40,7 +40,7 @@ unfolding inTime
 in-time-is tasks i a = refl
 
 -- the times in the room are the response times
-reported-is : (table room : List ℕ) (w : AdmittedBy table (length room)) (i : ℕ) → i < rowsIn table → reported table room i ≡ response (tableOf table) i
+pub reported-is : (table room : List ℕ) (w : AdmittedBy table (length room)) (i : ℕ) → i < rowsIn table → reported table room i ≡ response (tableOf table) i
 reported-is table room w i h =
     ap (λ (z : List ℕ). getD z i 0) (verdict-admitted table room (w .vs) (w .good) (w .fits) (admitted-all (tableOf table) (w .all)) .1)
     ∙ List·getD-append (responses (tableOf table)) (drop (length (tableOf table)) room) 0 i (omega (arith, responses-length (tableOf table)))

@@ -3,16 +3,16 @@ use mathlib.Core.List.{List, [], _∷_, map}
 use mathlib.Core.Path.{_≡_, refl, ap, _∙_}
 use Rattle.law.specs.Sums.{ceil, sum, firstFrom, build, mapFrom, among}
 use Rattle.law.specs.Refusal.{within}
-use Rattle.law.specs.Pattern.{mandatory, count}
+use Rattle.law.specs.Pattern.{mandatory, count, deeplyRed, redCount}
 use Rattle.law.specs.Table.{Task, taskOf, tableOf, kindOf, countOf, repeated, faultOf, faulty, rowsChecked, checked}
 use Rattle.law.specs.Verdict.{demand, load, fitsAt, response, fits, misfit, admitted, responses, verdict, verdictRoom}
 use Rattle.law.specs.Tick.{fresh, nextPlace, release, choose, outcome, advance, shifted, marks, settled, releaseAll, advanceAll, finish, begin, tick, run}
 use Rattle.law.specs.Promise.{stateAfter, during, settling}
-use Rattle.promise.specs.Examples.{Case, shown, mandatoryBelow, verdictShown, outcomeShown, upTo, rowWith, cases, ExamplesHold}
+use Rattle.promise.specs.Examples.{Case, shown, passBelow, verdictShown, outcomeShown, sixWords, upTo, rowWith, cases, ExamplesHold}
 use Rattle.promise.proofs.Excluded.{p9, p9-never-idle}
 
 table-holds : map (λ (c : Case). shown (c .example)) cases ≡ map (λ (c : Case). c .expected) cases
-unfolding cases shown mandatoryBelow verdictShown outcomeShown upTo ceil sum firstFrom build mapFrom among within mandatory count taskOf tableOf kindOf countOf repeated faultOf faulty rowsChecked checked demand load fitsAt response fits misfit admitted responses verdict verdictRoom fresh nextPlace release choose outcome advance shifted marks settled releaseAll advanceAll finish begin tick run stateAfter during settling
+unfolding cases shown passBelow verdictShown outcomeShown sixWords upTo ceil sum firstFrom build mapFrom among within mandatory count deeplyRed redCount taskOf tableOf kindOf countOf repeated faultOf faulty rowsChecked checked demand load fitsAt response fits misfit admitted responses verdict verdictRoom fresh nextPlace release choose outcome advance shifted marks settled releaseAll advanceAll finish begin tick run stateAfter during settling
 table-holds = refl
 
 p9-is : tableOf (rowWith 1 1 1 1 1 1) ≡ p9 ∷ []

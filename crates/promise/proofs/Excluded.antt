@@ -15,7 +15,7 @@ use Rattle.law.specs.Promise.{stateAfter}
 
 -- "P9 one row 1,1,1,1,1"
 abbrev pub p9 : Task
-p9 = record { id = 1; c = 1; t = 1; d = 1; m = 1; k = 1 }
+p9 = record { id = 1; c = 1; t = 1; d = 1; m = 1; k = 1; p = 0 }
 
 -- a state in which it stands at its next release, whatever was counted
 abbrev standing : ℕ → ℕ → Tally → State

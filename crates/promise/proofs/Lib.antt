@@ -6,4 +6,5 @@ pub mod Examples
 pub mod TextKept
 pub mod MissesLeft
 pub mod MarksKept
+pub mod EvenToo
 pub mod Once

@@ -1,27 +1,30 @@
 -- Document 01, "Examples on each side of a limit": P1 to P12 as one table, each case with what the definitions must give.
+use mathlib.Core.Bool.{Bool}
 use mathlib.Core.List.{List, [], _∷_, _++_, map}
 use mathlib.Core.Path.{_≡_}
 use Prim.Native.Nat.{ℕ, zero, suc, _-_}
 use lib.ListN.{length, take, replicate}
 use Rattle.law.specs.Sums.{pick}
 use Rattle.law.specs.Refusal.{Answer, accepted, refused}
-use Rattle.law.specs.Pattern.{mandatory}
+use Rattle.law.specs.Pattern.{mandatory, deeplyRed}
 use Rattle.law.specs.Table.{tableOf}
 use Rattle.law.specs.Verdict.{load, verdict, verdictRoom}
 use Rattle.law.specs.Tick.{Outcome, nothing, met, missed}
 use Rattle.law.specs.Promise.{stateAfter, settling}
 
--- What an example asks: which of the first n jobs of (m,k) are mandatory; the verdict on words, with a room of 32 words; the load of row i at t;
+-- What an example asks: which of the first n jobs of (m,k) are mandatory, by the even pattern or the deeply-red one; the verdict on words, with a room of 32 words; the load of row i at t;
 -- what becomes of row i at time u.
 pub data Example : Type 0 where
   jobs : ℕ → ℕ → ℕ → Example
+  reds : ℕ → ℕ → ℕ → Example
   judged : List ℕ → Example
   loaded : List ℕ → ℕ → ℕ → Example
   settled : List ℕ → ℕ → ℕ → Example
 
-unfoldable pub mandatoryBelow : ℕ → ℕ → ℕ → List ℕ
-mandatoryBelow m k zero = []
-mandatoryBelow m k (suc n) = mandatoryBelow m k n ++ pick (mandatory m k n) (n ∷ []) []
+-- the numbers below n that pass the test p
+unfoldable pub passBelow : (ℕ → Bool) → ℕ → List ℕ
+passBelow p zero = []
+passBelow p (suc n) = passBelow p n ++ pick (p n) (n ∷ []) []
 
 -- a refusal's number and what is also returned; or 0 and the response times
 unfoldable pub verdictShown : Answer → List ℕ → List ℕ
@@ -34,14 +37,23 @@ outcomeShown met = 1
 outcomeShown missed = 2
 
 unfoldable pub shown : Example → List ℕ
-shown (jobs m k n) = mandatoryBelow m k n
+shown (jobs m k n) = passBelow (mandatory m k) n
+shown (reds m k n) = passBelow (deeplyRed m k) n
 shown (judged words) = verdictShown (verdict words 32) (take (length (tableOf words)) (verdictRoom words (replicate 32 0)))
 shown (loaded words i t) = load (tableOf words) i t ∷ []
 shown (settled words i u) = outcomeShown (settling (stateAfter (tableOf words) (u - 1)) i) ∷ []
 
--- a row of words, the id first
+-- a row of words, the id first; with p 0 where it is not said
+abbrev pub rowOf : ℕ → ℕ → ℕ → ℕ → ℕ → ℕ → ℕ → List ℕ
+rowOf id c t d m k p = id ∷ c ∷ t ∷ d ∷ m ∷ k ∷ p ∷ []
+
 abbrev pub rowWith : ℕ → ℕ → ℕ → ℕ → ℕ → ℕ → List ℕ
-rowWith id c t d m k = id ∷ c ∷ t ∷ d ∷ m ∷ k ∷ []
+rowWith id c t d m k = rowOf id c t d m k 0
+
+-- n rows of six words, as they were before request 3, with the ids n to 1
+unfoldable pub sixWords : ℕ → List ℕ
+sixWords zero = []
+sixWords (suc n) = suc n ∷ 1 ∷ 9 ∷ 9 ∷ 1 ∷ 1 ∷ sixWords n
 
 -- 0, .., n - 1
 unfoldable pub upTo : ℕ → List ℕ
@@ -75,11 +87,24 @@ cases =
     -- P10 one row 2,4,1,1,1: 11, row 0; in a run job 0 is missed at time 1
     ∷ gives (judged (rowWith 1 2 4 1 1 1)) (11 ∷ 0 ∷ [])
     ∷ gives (settled (rowWith 1 2 4 1 1 1) 0 1) (2 ∷ [])
-    -- P11 no words: 2; seven words: 1
+    -- P11 no words: 2; eight words (document 02, 3/14): 1
     ∷ gives (judged []) (2 ∷ [])
     ∷ gives (judged (rowWith 1 1 1 1 1 1 ++ (1 ∷ []))) (1 ∷ [])
     -- P12 row 0 with k 65, row 1 with id 0: 8, row 0
     ∷ gives (judged (rowWith 1 1 1 1 1 65 ++ rowWith 0 1 1 1 1 1)) (8 ∷ 0 ∷ [])
+    -- Document 02, 3/14: "the first m of every k jobs are mandatory": (2,4), of jobs 0..9, jobs 0, 1, 4, 5, 8, 9. Against an even row 0 of (2,4) row 1
+    -- fits at 6; against a deeply-red one, which brings two jobs by then, it does not
+    ∷ gives (reds 2 4 10) (0 ∷ 1 ∷ 4 ∷ 5 ∷ 8 ∷ 9 ∷ [])
+    ∷ gives (judged (rowOf 11 2 4 4 2 4 0 ++ rowWith 12 4 6 6 2 3)) (0 ∷ 2 ∷ 6 ∷ [])
+    ∷ gives (judged (rowOf 11 2 4 4 2 4 1 ++ rowWith 12 4 6 6 2 3)) (11 ∷ 1 ∷ [])
+    ∷ gives (judged (rowOf 11 2 4 4 2 4 1 ++ rowWith 12 2 6 6 2 3)) (0 ∷ 2 ∷ 4 ∷ [])
+    -- "16, p above 1, with its row, comes after 9 and before 10": m 0 and p 2; p 2 and an id that stands in row 0. Seven rows of six words are no table
+    -- of six rows: the first number of the second row is taken for p
+    ∷ gives (judged (rowOf 1 1 1 1 0 1 2)) (9 ∷ 0 ∷ [])
+    ∷ gives (judged (rowWith 1 1 1 1 1 1 ++ rowOf 1 1 1 1 1 1 2)) (16 ∷ 1 ∷ [])
+    ∷ gives (judged (rowWith 1 1 1 1 1 1 ++ rowOf 1 1 1 1 1 1 1)) (10 ∷ 1 ∷ [])
+    ∷ gives (judged (sixWords 7)) (16 ∷ 0 ∷ [])
+    ∷ gives (judged (sixWords 6)) (1 ∷ [])
     ∷ []
 
 -- The one statement: every case of the table gives what document 01 says, and P9 is "never idle", however long it runs.

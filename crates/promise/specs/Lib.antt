@@ -3,3 +3,4 @@ pub mod Examples
 pub mod TextKept
 pub mod MissesLeft
 pub mod MarksKept
+pub mod EvenToo

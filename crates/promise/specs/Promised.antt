@@ -16,7 +16,7 @@ use Rattle.law.specs.Promise.{settling, tookIn}
 
 -- what `dispatch::start::fresh_words` lays into a room of zeros
 unfoldable pub begun : List ℕ → List ℕ
-begun table = freshWords table (replicate 611 0)
+begun table = freshWords table (replicate 643 0)
 
 -- what `dispatch::run::run_words` hands back after t ticks of it, as a state
 unfoldable pub seenAt : List ℕ → ℕ → State

@@ -14,7 +14,7 @@ textLeft words bytes n = take n (writeRoom words bytes)
 
 -- the words that `text::read::read` left in a room of words, of n rows
 abbrev pub wordsLeft : List ℕ → List ℕ → ℕ → List ℕ
-wordsLeft text room n = take (n * 6) (readRoom text room)
+wordsLeft text room n = take (n * 7) (readRoom text room)
 
 -- "Task text reads back to the words that wrote it": a text of n bytes that the writer accepted, read into any room that has the words' number
 pub record ReadsBack (words bytes : List ℕ) (n : ℕ) : Type 0 where

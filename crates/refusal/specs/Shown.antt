@@ -1,10 +1,10 @@
--- How the enum `Refusal` is read: its number in document 01, and the row or place that is also returned.
+-- How the enum `Refusal` is read: its number in documents 01 and 02, and the row or place that is also returned.
 use mathlib.Core.Bool.{Bool, true, false}
 use mathlib.Core.List.{List, [], _∷_}
 use Prim.Native.Nat.{ℕ}
 use Rattle.law.specs.Refusal.{Answer, refused}
 use Rattle.refusal.specs.declared.Refusal.{Refusal}
-use Rattle.refusal.specs.declared.Refusal.the-variants.{NotWholeRows, NoRows, ManyRows, Id, T, D, C, K, M, Repeated, Unschedulable, Text, Room, State, Clock}
+use Rattle.refusal.specs.declared.Refusal.the-variants.{NotWholeRows, NoRows, ManyRows, Id, T, D, C, K, M, Repeated, Unschedulable, Text, Room, State, Clock, P}
 
 abbrev pub numberOf : Refusal → ℕ
 numberOf NotWholeRows = 1
@@ -22,6 +22,7 @@ numberOf (Text place) = 12
 numberOf Room = 13
 numberOf State = 14
 numberOf Clock = 15
+numberOf (P row) = 16
 
 abbrev pub alsoOf : Refusal → List ℕ
 alsoOf NotWholeRows = []
@@ -39,6 +40,7 @@ alsoOf (Text place) = place ∷ []
 alsoOf Room = []
 alsoOf State = []
 alsoOf Clock = []
+alsoOf (P row) = row ∷ []
 
 -- whether there is one
 abbrev pub isSome : List ℕ → Bool

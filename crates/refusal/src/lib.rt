@@ -1,9 +1,9 @@
-// The refusals of document 01: one enum, made where the fault is found and numbered here, once.
+// The refusals of documents 01 and 02: one enum, made where the fault is found and numbered here, once.
 ghost use mathlib.Core.Path.{_≡_};
 ghost use Rattle.law.specs.Refusal.{codeOf, valueOf, within};
 ghost use Rattle.refusal.specs.Shown.{shown, hasAlso};
 
-// A refusal and, where document 01 returns one, the row or the place that goes with it.
+// A refusal and, where a row or a place is also returned, the row or the place that goes with it.
 pub enum Refusal {
     NotWholeRows,
     NoRows,
@@ -20,9 +20,10 @@ pub enum Refusal {
     Room,
     State,
     Clock,
+    P(u64),
 }
 
-// The number of a refusal in document 01.
+// The number of a refusal in documents 01 and 02.
 pub fn number(r: Refusal) -> u64
     ensures { λ n. ⌜ n ≡ codeOf (shown r) ⌝ }
 {
@@ -42,6 +43,7 @@ pub fn number(r: Refusal) -> u64
         Refusal::Room => 13,
         Refusal::State => 14,
         Refusal::Clock => 15,
+        Refusal::P(_) => 16,
     }
 }
 
@@ -65,6 +67,7 @@ pub fn also(r: Refusal) -> u64
         Refusal::Room => 0,
         Refusal::State => 0,
         Refusal::Clock => 0,
+        Refusal::P(row) => row,
     }
 }
 
@@ -88,6 +91,7 @@ pub fn has_also(r: Refusal) -> bool
         Refusal::Room => false,
         Refusal::State => false,
         Refusal::Clock => false,
+        Refusal::P(_) => true,
     }
 }
 

@@ -14,7 +14,7 @@ use Rattle.law.proofs.Tests.{both-left, both-right}
 use Rattle.law.proofs.TextDecimal.{decimal-ten}
 use Rattle.law.proofs.TextWrite.{lines-append}
 use Rattle.refusal.specs.declared.Refusal.{Refusal}
-use Rattle.refusal.specs.declared.Refusal.the-variants.{NotWholeRows, NoRows, ManyRows, Id, T, D, C, K, M, Repeated, Unschedulable, Text, Room, State, Clock}
+use Rattle.refusal.specs.declared.Refusal.the-variants.{NotWholeRows, NoRows, ManyRows, Id, T, D, C, K, M, Repeated, Unschedulable, Text, Room, State, Clock, P}
 use Rattle.refusal.specs.Shown.{numberOf}
 use Rattle.report.specs.Said.{Small}
 use Rattle.text.specs.Written.{putAt, lineOf}
@@ -77,7 +77,7 @@ small-at [] j e = omega arith
 small-at (v ∷ values) zero e = leb-true v 4294967295 (both-left _ _ e)
 small-at (v ∷ values) (suc j) e = small-at values j (both-right (leb v 4294967295) _ e)
 
-pub number-small : (r : Refusal) → numberOf r ≤ 15
+pub number-small : (r : Refusal) → numberOf r ≤ 16
 number-small NotWholeRows = omega arith
 number-small NoRows = omega arith
 number-small ManyRows = omega arith
@@ -93,6 +93,7 @@ number-small (Text place) = omega arith
 number-small Room = omega arith
 number-small State = omega arith
 number-small Clock = omega arith
+number-small (P row) = omega arith
 
 pub number-some : (r : Refusal) → 1 ≤ numberOf r
 number-some NotWholeRows = omega arith
@@ -110,3 +111,4 @@ number-some (Text place) = omega arith
 number-some Room = omega arith
 number-some State = omega arith
 number-some Clock = omega arith
+number-some (P row) = omega arith

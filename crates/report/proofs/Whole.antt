@@ -23,7 +23,7 @@ use Rattle.report.proofs.Chain.{Lined}
 
 -- the state after the run
 module _ {words : List ℕ} (good : Good words) (n : ℕ) (early : n ≤ clockEnd) {first state : List ℕ}
-    (f : first ≡ freshWords words (replicate 611 0)) (r : state ≡ runWords first n) where
+    (f : first ≡ freshWords words (replicate 643 0)) (r : state ≡ runWords first n) where
   pub after-laid : state ≡ laid (run n (fresh (tableOf words)))
   after-laid = r ∙ ap (λ (z : List ℕ). runWords z n) f ∙ begun-run words (good .values) (good .is) n early
 

@@ -34,7 +34,7 @@ fn print_all(input: &[u8], out: &mut [u8]) -> usize
     let Value::Is(ticks, next) = answer else {
         return print_refusal(out, Refusal::Text(place(answer) as u64), 0);
     };
-    let mut words = [0u32; 192];
+    let mut words = [0u32; 224];
     match read(&input[next..], &mut words) {
         Reading::Rows(rows) => print_run(out, &words[..rows * WIDTH], ticks as u32),
         Reading::Refused(r) => print_refusal(out, r, next as u64),

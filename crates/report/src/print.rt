@@ -111,7 +111,7 @@ pub(crate) fn print_run(out: &mut [u8], words: &[u32], ticks: u32) -> usize
 {
     let mut times = [0u32; 32];
     let mut at = print_verdict(out, words, &mut times);
-    let mut state = [0u64; 611];
+    let mut state = [0u64; 643];
     fresh_words(words, &mut state);
     run_words(&mut state, ticks);
     at = put_line(out, at, b"ticks=", ticks as u64);

@@ -3,22 +3,21 @@ use mathlib.Core.Bool.{Bool}
 use mathlib.Core.Logic.{_⊎_, ⊎-elim}
 use mathlib.Core.Path.{_≡_, sym, ap, _∙_}
 use Prim.Native.Nat.{ℕ, _-_, _/_, _%_, _^_, _<_}
-use native.Mathlib.Nat.{add-zero, mod-eq-of-lt}
+use native.Mathlib.Nat.{add-zero}
 use native.Mathlib.Omega.{arith}
 use lib.Dec.{eqb}
 use Rattle.law.specs.Sums.{bit}
-use Rattle.law.specs.Pattern.{InRange, word, mandatory}
+use Rattle.law.specs.Table.{Task, kindOf, wordOf}
 use Rattle.law.specs.Tick.{Core, Row, workAfter, advance, advanceRow, release, releaseRow}
 use Rattle.law.specs.Sound.{Resting, Running, SoundCore}
-use Rattle.law.proofs.Question.{word-tells}
+use Rattle.law.proofs.Question.{bits-tell}
 use Rattle.law.proofs.Sound.{outcome-none, outcome-met, outcome-missed, outcome-on, live-yes, live-no, due-no}
 use Rattle.rows.specs.Said.{closedRow}
 
 -- the bit at a place of a row's pattern word is the kind that the law gives
-pub kind-tells : (m k place : ℕ) (w : ℕ) → InRange m k → place < k → w ≡ word m k → eqb (w / 2 ^ place % 2) 1 ≡ mandatory m k place
-kind-tells m k place w h l e =
-    ap (λ (z : ℕ). eqb (z / 2 ^ place % 2) 1) e ∙ ap (λ (z : ℕ). eqb (word m k / 2 ^ z % 2) 1) (sym (mod-eq-of-lt l))
-    ∙ word-tells m k place h
+pub kind-tells : (r : Task) (place w : ℕ) → place < r .k → w ≡ wordOf r → eqb (w / 2 ^ place % 2) 1 ≡ kindOf r place
+unfolding wordOf
+kind-tells r place w l e = ap (λ (z : ℕ). eqb (z / 2 ^ place % 2) 1) e ∙ bits-tell (kindOf r) (r .k) place l
 
 -- a row that waits is not changed by the releases
 pub waits-on : (work : ℕ) (r : Row) → (r .core .wait ≡ 0 → ⊥) → r ≡ releaseRow work r

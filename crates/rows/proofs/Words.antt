@@ -13,7 +13,7 @@ use Rattle.law.proofs.First.{build-length, build-at}
 use Rattle.law.proofs.Laid.{laid-length, laid-put, laid-put-word, laid-going, state-laid, going}
 use Rattle.rows.specs.Said.{Sized, Laid}
 
-pub words-long : {words : List ℕ} → Laid words → length words ≡ 611
+pub words-long : {words : List ℕ} → Laid words → length words ≡ 643
 words-long {words} l = ap length (l .is) ∙ laid-length (stateOf words) (l .few)
 
 pub rows-are : (words : List ℕ) → length (stateOf words .rows) ≡ getD words 0 0
@@ -32,20 +32,20 @@ task-read {words} {rows} s i h =
     ap (λ (z : Row). z .core .task) (row-read words i (omega (arith, s .total))) ∙ sym (task-at (stateOf words .rows) i)
 
 pub row-put : {words : List ℕ} (l : Laid words) (i : ℕ) (r : Row) → i < length (stateOf words .rows)
-    → setsFrom words (i * 19) 3 (wordsOf r) ≡ laid (withRow (stateOf words) i r)
+    → setsFrom words (i * 20) 3 (wordsOf r) ≡ laid (withRow (stateOf words) i r)
 row-put {words} l i r h =
-    ap (λ (z : List ℕ). setsFrom z (i * 19) 3 (wordsOf r)) (l .is) ∙ laid-put (stateOf words) i r (l .few) h
+    ap (λ (z : List ℕ). setsFrom z (i * 20) 3 (wordsOf r)) (l .is) ∙ laid-put (stateOf words) i r (l .few) h
 
 -- its wait alone, and its wait, work and time left
 pub wait-put : {words : List ℕ} (l : Laid words) (i wait : ℕ) (r : Row) → i < length (stateOf words .rows)
-    → wordsOf r ≡ set (wordsOf (getD (stateOf words .rows) i noRow)) 6 wait → set words (i * 19 + 9) wait ≡ laid (withRow (stateOf words) i r)
+    → wordsOf r ≡ set (wordsOf (getD (stateOf words .rows) i noRow)) 7 wait → set words (i * 20 + 10) wait ≡ laid (withRow (stateOf words) i r)
 wait-put {words} l i wait r h e =
-    ap (λ (z : List ℕ). set z (i * 19 + 9) wait) (l .is) ∙ laid-put-word (stateOf words) i 6 wait r (l .few) h (omega arith) e
+    ap (λ (z : List ℕ). set z (i * 20 + 10) wait) (l .is) ∙ laid-put-word (stateOf words) i 7 wait r (l .few) h (omega arith) e
 
 pub going-put : {words : List ℕ} (l : Laid words) (i wait work left : ℕ) → i < length (stateOf words .rows)
-    → set (set (set words (i * 19 + 9) wait) (i * 19 + 11) work) (i * 19 + 12) left ≡ laid (withRow (stateOf words) i (going (getD (stateOf words .rows) i noRow) wait work left))
+    → set (set (set words (i * 20 + 10) wait) (i * 20 + 12) work) (i * 20 + 13) left ≡ laid (withRow (stateOf words) i (going (getD (stateOf words .rows) i noRow) wait work left))
 going-put {words} l i wait work left h =
-    ap (λ (z : List ℕ). set (set (set z (i * 19 + 9) wait) (i * 19 + 11) work) (i * 19 + 12) left) (l .is)
+    ap (λ (z : List ℕ). set (set (set z (i * 20 + 10) wait) (i * 20 + 12) work) (i * 20 + 13) left) (l .is)
     ∙ laid-going (stateOf words) i wait work left (l .few) h
 
 -- a row put back as it was changes nothing

@@ -5,7 +5,7 @@ use mathlib.Core.Path.{_≡_}
 use Prim.Native.Nat.{ℕ, _+_, _≤_, _<_}
 use lib.ListN.{length, getD}
 use Rattle.law.specs.Sums.{bit}
-use Rattle.law.specs.Pattern.{word}
+use Rattle.law.specs.Table.{wordOf}
 use Rattle.law.specs.Tick as law
 use Rattle.law.specs.Tick.{clockEnd, settled, coreAt, advanceAll}
 use Rattle.law.specs.State.{stateOf, laid}
@@ -45,7 +45,7 @@ closedRow mark r =
 
 -- words of the right number, with their number of rows, at most 32
 pub record Sized (words : List ℕ) (rows : ℕ) : Type 0 where
-  pub long : length words ≡ 611
+  pub long : length words ≡ 643
   pub total : rows ≡ length (stateOf words .rows)
   pub few : rows ≤ 32
 
@@ -59,10 +59,10 @@ pub record Held (phase : ℕ) (words : List ℕ) : Type 0 where
   pub laid : Laid words
   pub sound : SoundState phase (stateOf words)
 
--- the pattern word of each row, fetched once for a run
+-- the word of each row's own pattern, fetched once for a run
 pub record Fetched (rows : List law.Row) (patterns : List ℕ) : Type 0 where
   pub enough : length rows ≤ length patterns
-  pub at : (i : ℕ) → i < length rows → getD patterns i 0 ≡ word (coreAt rows i .task .m) (coreAt rows i .task .k)
+  pub at : (i : ℕ) → i < length rows → getD patterns i 0 ≡ wordOf (coreAt rows i .task)
 
 -- a state whose rows have had steps 3 and 4, before its time and idle count are written
 abbrev pub advancedState : ℕ → law.State → law.State

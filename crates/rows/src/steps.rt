@@ -3,7 +3,8 @@ ghost use mathlib.Core.Path.{_≡_};
 ghost use Prim.Native.Nat.{_+_, _-_, _≤_, _<_, _/_, _%_, _^_};
 ghost use lib.Dec.{eqb};
 ghost use Rattle.law.specs.Sums.{bit};
-ghost use Rattle.law.specs.Pattern.{InRange, word as patternWord};
+ghost use Rattle.law.specs.Pattern.{InRange};
+ghost use Rattle.law.specs.Table.{wordOf};
 ghost use Rattle.law.specs.Tick.{nextPlace, releaseRow, advanceRow};
 ghost use Rattle.table.specs.Said.{taskSaid};
 ghost use Rattle.tally.specs.Said.{tallySaid, Countable};
@@ -30,9 +31,9 @@ fn kind_at(pattern: u64, place: u64) -> u64
     if bit_at(pattern, place) { 1 } else { 0 }
 }
 
-// Step 1: a row with wait 0 releases its next job, with C work, D ticks to its deadline and its kind from the pattern.
+// Step 1: a row with wait 0 releases its next job, with C work, D ticks to its deadline and its kind from its own pattern.
 pub fn released(r: Row, pattern: u64) -> Row
-    requires { ⌜ (Timed 0 (rowSaid r)) × (r .wait ≡ 0) × (pattern ≡ patternWord (r .task .m) (r .task .k)) ⌝ }
+    requires { ⌜ (Timed 0 (rowSaid r)) × (r .wait ≡ 0) × (pattern ≡ wordOf (taskSaid (r .task))) ⌝ }
     ensures { λ q. ⌜ rowSaid q ≡ releaseRow (r .task .c) (rowSaid r) ⌝ }
 {
     let task = r.task;

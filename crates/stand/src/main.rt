@@ -4,7 +4,7 @@ use libc::STDOUT_FILENO;
 use report::Printed;
 use report::report;
 
-// No more than 1,592 bytes of an input are looked at (`printed-cut`, crates/law/proofs/Report.antt), and nothing printed is longer than
+// No more than 1,848 bytes of an input are looked at (`printed-cut`, crates/law/proofs/Report.antt), and nothing printed is longer than
 // 5,120 bytes (`printed-most`, there too): longer input may be cut, and the room never is too short.
 fn main() {
     let mut input = [0u8; 2048];

@@ -142,7 +142,7 @@ fn ran(r: Ran) -> Answer
     }
 }
 
-// The fresh state of a table, laid into the first 611 words of a room: its number of rows.
+// The fresh state of a table, laid into the first 643 words of a room: its number of rows.
 #[no_mangle]
 pub extern "C" fn gp_fresh(table: &[u32], room: &mut [u64]) -> Answer
     ensures answer { λ a. ⌜ a ≡ numbered (freshAnswer (now (table .entry)) (length (now (room .entry)))) ⌝ }
@@ -157,7 +157,7 @@ pub extern "C" fn gp_fresh(table: &[u32], room: &mut [u64]) -> Answer
     }
 }
 
-// Whether 611 words are a well-formed state.
+// Whether 643 words are a well-formed state.
 #[no_mangle]
 pub extern "C" fn gp_well(state: &[u64]) -> Answer
     ensures { λ a. ⌜ a ≡ numbered (savedAnswer (now (state .entry))) ⌝ }

@@ -8,7 +8,7 @@ use Rattle.table.specs.declared.Checked.{Checked}
 use Rattle.table.specs.declared.Checked.the-variants.{Rows, Refused}
 
 abbrev pub taskSaid : Task → law.Task
-taskSaid r = record { id = r .id; c = r .c; t = r .t; d = r .d; m = r .m; k = r .k }
+taskSaid r = record { id = r .id; c = r .c; t = r .t; d = r .d; m = r .m; k = r .k; p = r .p }
 
 abbrev pub shown : Checked → Answer
 shown (Rows n) = accepted (n ∷ [])

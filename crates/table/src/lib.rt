@@ -1,10 +1,10 @@
-// A task table: a lent run of 32-bit words, six to a row, and the checks of document 01 in their order.
+// A task table: a lent run of 32-bit words, seven to a row, and its checks in their order.
 ghost use mathlib.Core.Path.{_≡_};
 ghost use mathlib.Core.List.{[], _∷_, _++_};
 ghost use Prim.Native.Nat.{_+_, _*_, _/_, _<_, _≤_};
 ghost use lib.ListN.{length, getD, take, drop};
 ghost use Rattle.law.specs.Refusal.{refused};
-ghost use Rattle.law.specs.Table.{taskAt, tableOf, repeated, faultOf, rowsChecked, checked};
+ghost use Rattle.law.specs.Table.{taskAt, tableOf, repeated, RowNumber, faultOf, rowsChecked, checked};
 ghost use Rattle.refusal.specs.Shown.{shown as refusalShown};
 ghost use Rattle.table.specs.Said.{taskSaid, shown};
 use refusal::Refusal;
@@ -18,6 +18,7 @@ pub struct Task {
     pub d: u64,
     pub m: u64,
     pub k: u64,
+    pub p: u64,
 }
 
 // The number of rows of a well-formed table, or why it is none.
@@ -27,19 +28,19 @@ pub enum Checked {
 }
 
 // The words of a row.
-pub const WIDTH: usize = 6;
+pub const WIDTH: usize = 7;
 
 // Word j of a row.
 fn word(words: &[u32], row: usize, j: usize) -> u64
-    requires { ⌜ (row < length (now words) / 6) × (j < 6) ⌝ }
-    ensures { λ r. ⌜ r ≡ getD (now (words .entry)) (row * 6 + j) 0 ⌝ }
+    requires { ⌜ (row < length (now words) / 7) × (j < 7) ⌝ }
+    ensures { λ r. ⌜ r ≡ getD (now (words .entry)) (row * 7 + j) 0 ⌝ }
 {
     words[row * WIDTH + j] as u64
 }
 
 // A row of a table: the one place that knows the order of a row's words.
 pub fn task_at(words: &[u32], row: usize) -> Task
-    requires { ⌜ row < length (now words) / 6 ⌝ }
+    requires { ⌜ row < length (now words) / 7 ⌝ }
     ensures { λ r. ⌜ taskSaid r ≡ taskAt (now (words .entry)) row ⌝ }
 {
     Task {
@@ -49,6 +50,7 @@ pub fn task_at(words: &[u32], row: usize) -> Task
         d: word(words, row, 3),
         m: word(words, row, 4),
         k: word(words, row, 5),
+        p: word(words, row, 6),
     }
 }
 
@@ -74,12 +76,15 @@ pub fn row_fault(r: Task, twice: bool) -> u64
     if !is_within(1, r.k, r.m) {
         return 9;
     }
+    if 1 < r.p {
+        return 16;
+    }
     if twice { 10 } else { 0 }
 }
 
 // The refusal of a row, by its number.
 fn row_refusal(number: u64, row: u64) -> Refusal
-    requires { ⌜ (4 ≤ number) × (number ≤ 10) ⌝ }
+    requires { ⌜ RowNumber number ⌝ }
     ensures { λ r. ⌜ refusalShown r ≡ refused number (row ∷ []) ⌝ }
 {
     match number {
@@ -89,13 +94,14 @@ fn row_refusal(number: u64, row: u64) -> Refusal
         7 => Refusal::C(row),
         8 => Refusal::K(row),
         9 => Refusal::M(row),
+        16 => Refusal::P(row),
         _ => Refusal::Repeated(row),
     }
 }
 
 // Whether a row's id stands in an earlier row.
 fn is_repeated(words: &[u32], row: usize) -> bool
-    requires { ⌜ row < length (now words) / 6 ⌝ }
+    requires { ⌜ row < length (now words) / 7 ⌝ }
     ensures { λ r. ⌜ r ≡ repeated (tableOf (now (words .entry))) row ⌝ }
 {
     let id = task_at(words, row).id;

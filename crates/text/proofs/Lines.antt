@@ -28,16 +28,16 @@ behind-start words n old start =
 
 -- what the first line and the room for the whole text say of the rest
 pub record First (words : List ℕ) (n : ℕ) (room old : List ℕ) (start : ℕ) : Type 0 where
-  pub whole : length words ≡ n * 6
+  pub whole : length words ≡ n * 7
   pub next : start ≡ 0 + length (lineOf rowsKey n)
   pub bytes : old ≡ putAt room 0 (lineOf rowsKey n)
   pub fits : length (textOf rowKeys words) ≤ length room
 
-text-lines : (words : List ℕ) (n : ℕ) → length words ≡ n * 6 → textOf rowKeys words ≡ lineOf rowsKey n ++ rowLines rowKeys words n (length words)
+text-lines : (words : List ℕ) (n : ℕ) → length words ≡ n * 7 → textOf rowKeys words ≡ lineOf rowsKey n ++ rowLines rowKeys words n (length words)
 unfolding lineOf
 text-lines words n whole = text-rows rowKeys words n whole (omega arith)
 
-pub first-fits : (words : List ℕ) (n : ℕ) → length words ≡ n * 6 → length (lineOf rowsKey n) ≤ length (textOf rowKeys words)
+pub first-fits : (words : List ℕ) (n : ℕ) → length words ≡ n * 7 → length (lineOf rowsKey n) ≤ length (textOf rowKeys words)
 first-fits words n whole =
     omega (arith, ap length (text-lines words n whole), length-append (lineOf rowsKey n) (rowLines rowKeys words n (length words)))
 
@@ -56,22 +56,22 @@ module _ {words : List ℕ} {n : ℕ} {room old : List ℕ} {start : ℕ} (f : F
     pub behind-long : length out ≡ length room
     behind-long = ap length (b .bytes) ∙ put-length old start (rowLines rowKeys words n l) so-far ∙ old-long
 
-    due : l < length words → rowLines rowKeys words n (suc l) ≡ rowLines rowKeys words n l ++ lineOf (getD rowKeys (l % 6) []) (getD words l 0)
+    due : l < length words → rowLines rowKeys words n (suc l) ≡ rowLines rowKeys words n l ++ lineOf (getD rowKeys (l % 7) []) (getD words l 0)
     unfolding lineOf
     due h = rows-next rowKeys words n (f .whole) l h
 
     due-length : l < length words
-        → length (rowLines rowKeys words n (suc l)) ≡ length (rowLines rowKeys words n l) + length (lineOf (getD rowKeys (l % 6) []) (getD words l 0))
-    due-length h = ap length (due h) ∙ length-append (rowLines rowKeys words n l) (lineOf (getD rowKeys (l % 6) []) (getD words l 0))
+        → length (rowLines rowKeys words n (suc l)) ≡ length (rowLines rowKeys words n l) + length (lineOf (getD rowKeys (l % 7) []) (getD words l 0))
+    due-length h = ap length (due h) ∙ length-append (rowLines rowKeys words n l) (lineOf (getD rowKeys (l % 7) []) (getD words l 0))
 
-    pub due-fits : l < length words → at + length (lineOf (getD rowKeys (l % 6) []) (getD words l 0)) ≤ length out
+    pub due-fits : l < length words → at + length (lineOf (getD rowKeys (l % 7) []) (getD words l 0)) ≤ length out
     due-fits h =
         omega (arith, behind-long, b .next, f .next, f .fits, text-length, due-length h, rows-most rowKeys words n (f .whole) (suc l) h)
 
-    pub behind-next : {out' : List ℕ} {at' : ℕ} → l < length words → at' ≡ at + length (lineOf (getD rowKeys (l % 6) []) (getD words l 0))
-        → out' ≡ putAt out at (lineOf (getD rowKeys (l % 6) []) (getD words l 0)) → Behind words n old start out' at' (l + 1)
+    pub behind-next : {out' : List ℕ} {at' : ℕ} → l < length words → at' ≡ at + length (lineOf (getD rowKeys (l % 7) []) (getD words l 0))
+        → out' ≡ putAt out at (lineOf (getD rowKeys (l % 7) []) (getD words l 0)) → Behind words n old start out' at' (l + 1)
     behind-next h e p =
-        let line : List ℕ = lineOf (getD rowKeys (l % 6) []) (getD words l 0) in
+        let line : List ℕ = lineOf (getD rowKeys (l % 7) []) (getD words l 0) in
         let one : suc l ≡ l + 1 = sym (add-one l) in
         record {
           reached = omega arith;

@@ -128,7 +128,7 @@ pub fn line_at(text: &[u8], at: usize, key: &[u8]) -> Value
 
 // The line that is due at a place: "Which key is due is decided by the line's number within its row."
 pub(crate) fn due_at(text: &[u8], at: usize, j: usize) -> Value
-    requires { ⌜ (at ≤ length (now text)) × (j < 6) ⌝ }
+    requires { ⌜ (at ≤ length (now text)) × (j < 7) ⌝ }
     ensures { λ r. ⌜ said r ≡ lineAt (now (text .entry)) at (getD rowKeys j []) ⌝ }
 {
     match j {
@@ -137,6 +137,7 @@ pub(crate) fn due_at(text: &[u8], at: usize, j: usize) -> Value
         2 => line_at(text, at, b"t="),
         3 => line_at(text, at, b"d="),
         4 => line_at(text, at, b"m="),
-        _ => line_at(text, at, b"k="),
+        5 => line_at(text, at, b"k="),
+        _ => line_at(text, at, b"p="),
     }
 }

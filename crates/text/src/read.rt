@@ -1,4 +1,4 @@
-// Task text read whole: rows of six lines, their table, and the words laid into a lent room. Each caller of the reader takes its
+// Task text read whole: rows of seven lines, their table, and the words laid into a lent room. Each caller of the reader takes its
 // answer apart and stops at a fault.
 ghost use mathlib.Core.List.{[], _∷_};
 ghost use mathlib.Core.Path.{_≡_};
@@ -29,12 +29,12 @@ pub enum Reading {
     Refused(Refusal),
 }
 
-// The six lines of a row, from a place on, as words of that row.
-fn row_at(text: &[u8], from: usize, words: &mut [u32; 192], row: usize) -> Rest
-    requires { ⌜ (from ≤ length (now text)) × (length (now words) ≡ 192) × (row < 32) ⌝ }
-    ensures read { λ r. ⌜ told r (take 6 (drop (row * 6) (now (words .exit)))) ≡ linesAt (now (text .entry)) from rowKeys ⌝ }
-    ensures kept { λ r. ⌜ take (row * 6) (now (words .exit)) ≡ take (row * 6) (now (words .entry)) ⌝ }
-    ensures length { λ r. ⌜ length (now (words .exit)) ≡ 192 ⌝ }
+// The seven lines of a row, from a place on, as words of that row.
+fn row_at(text: &[u8], from: usize, words: &mut [u32; 224], row: usize) -> Rest
+    requires { ⌜ (from ≤ length (now text)) × (length (now words) ≡ 224) × (row < 32) ⌝ }
+    ensures read { λ r. ⌜ told r (take 7 (drop (row * 7) (now (words .exit)))) ≡ linesAt (now (text .entry)) from rowKeys ⌝ }
+    ensures kept { λ r. ⌜ take (row * 7) (now (words .exit)) ≡ take (row * 7) (now (words .entry)) ⌝ }
+    ensures length { λ r. ⌜ length (now (words .exit)) ≡ 224 ⌝ }
 {
     let mut at = from;
     let mut j = 0;
@@ -51,10 +51,10 @@ fn row_at(text: &[u8], from: usize, words: &mut [u32; 192], row: usize) -> Rest
 }
 
 // The lines of so many rows, from a place on, as words from the start.
-fn rows_at(text: &[u8], from: usize, words: &mut [u32; 192], rows: usize) -> Rest
-    requires { ⌜ (from ≤ length (now text)) × (length (now words) ≡ 192) × (rows ≤ 32) ⌝ }
-    ensures read { λ r. ⌜ told r (take (rows * 6) (now (words .exit))) ≡ linesAt (now (text .entry)) from (keysOf rowKeys rows) ⌝ }
-    ensures length { λ r. ⌜ length (now (words .exit)) ≡ 192 ⌝ }
+fn rows_at(text: &[u8], from: usize, words: &mut [u32; 224], rows: usize) -> Rest
+    requires { ⌜ (from ≤ length (now text)) × (length (now words) ≡ 224) × (rows ≤ 32) ⌝ }
+    ensures read { λ r. ⌜ told r (take (rows * 7) (now (words .exit))) ≡ linesAt (now (text .entry)) from (keysOf rowKeys rows) ⌝ }
+    ensures length { λ r. ⌜ length (now (words .exit)) ≡ 224 ⌝ }
 {
     let mut at = from;
     let mut i = 0;
@@ -70,10 +70,10 @@ fn rows_at(text: &[u8], from: usize, words: &mut [u32; 192], rows: usize) -> Res
 }
 
 // The same, and nothing after them.
-fn rows_to_end(text: &[u8], from: usize, words: &mut [u32; 192], rows: usize) -> Rest
-    requires { ⌜ (from ≤ length (now text)) × (length (now words) ≡ 192) × (rows ≤ 32) ⌝ }
-    ensures read { λ r. ⌜ told r (take (rows * 6) (now (words .exit))) ≡ rowsAt rowKeys (now (text .entry)) from rows ⌝ }
-    ensures length { λ r. ⌜ length (now (words .exit)) ≡ 192 ⌝ }
+fn rows_to_end(text: &[u8], from: usize, words: &mut [u32; 224], rows: usize) -> Rest
+    requires { ⌜ (from ≤ length (now text)) × (length (now words) ≡ 224) × (rows ≤ 32) ⌝ }
+    ensures read { λ r. ⌜ told r (take (rows * 7) (now (words .exit))) ≡ rowsAt rowKeys (now (text .entry)) from rows ⌝ }
+    ensures length { λ r. ⌜ length (now (words .exit)) ≡ 224 ⌝ }
 {
     let rest = rows_at(text, from, words, rows);
     let Rest::Next(end) = rest else {
@@ -91,7 +91,7 @@ fn read_rows(text: &[u8], from: usize, rows: usize, room: &mut [u32]) -> Reading
     ensures answer { λ r. ⌜ shown r ≡ readAnswer (now (text .entry)) (length (now (room .entry))) ⌝ }
     ensures room { λ r. ⌜ now (room .exit) ≡ readRoom (now (text .entry)) (now (room .entry)) ⌝ }
 {
-    let mut words = [0u32; 192];
+    let mut words = [0u32; 224];
     let n = rows * WIDTH;
     match rows_to_end(text, from, &mut words, rows) {
         Rest::Next(_) => {}
@@ -108,7 +108,7 @@ fn read_rows(text: &[u8], from: usize, rows: usize, room: &mut [u32]) -> Reading
     Reading::Rows(rows)
 }
 
-// A task text, read into a lent room. Read: its words stand in the first words of the room, six to a row. Refused: the room is as it was.
+// A task text, read into a lent room. Read: its words stand in the first words of the room, seven to a row. Refused: the room is as it was.
 pub fn read(text: &[u8], room: &mut [u32]) -> Reading
     ensures answer { λ r. ⌜ shown r ≡ readAnswer (now (text .entry)) (length (now (room .entry))) ⌝ }
     ensures room { λ r. ⌜ now (room .exit) ≡ readRoom (now (text .entry)) (now (room .entry)) ⌝ }

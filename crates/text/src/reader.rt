@@ -24,7 +24,7 @@ fn reader_at<'a>(text: &'a [u8], at: usize) -> Reader<'a>
 
 // The value of the line that is due at the reader's place, j being its number within its row.
 fn next_value<'a>(r: Reader<'a>, j: usize) -> Value
-    requires { ⌜ (r .at ≤ length (now (r .text))) × (j < 6) ⌝ }
+    requires { ⌜ (r .at ≤ length (now (r .text))) × (j < 7) ⌝ }
     ensures { λ v. ⌜ said v ≡ lineAt (now (r .entry .text)) (r .entry .at) (getD rowKeys j []) ⌝ }
 {
     due_at(r.text, r.at, j)
@@ -32,7 +32,7 @@ fn next_value<'a>(r: Reader<'a>, j: usize) -> Value
 
 // The same for callers that hold the text and the place apart.
 pub(crate) fn value_from(text: &[u8], at: usize, j: usize) -> Value
-    requires { ⌜ (at ≤ length (now text)) × (j < 6) ⌝ }
+    requires { ⌜ (at ≤ length (now text)) × (j < 7) ⌝ }
     ensures { λ v. ⌜ said v ≡ lineAt (now (text .entry)) at (getD rowKeys j []) ⌝ }
 {
     next_value(reader_at(text, at), j)

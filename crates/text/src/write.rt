@@ -21,7 +21,7 @@ pub enum Written {
 
 // The line that is due by its number within its row; answers the place after it.
 fn put_due(out: &mut [u8], at: usize, j: usize, v: u64) -> usize
-    requires { ⌜ (j < 6) × (v ≤ 4294967295) × (at + length (lineOf (getD rowKeys j []) v) ≤ length (now out)) ⌝ }
+    requires { ⌜ (j < 7) × (v ≤ 4294967295) × (at + length (lineOf (getD rowKeys j []) v) ≤ length (now out)) ⌝ }
     ensures place { λ r. ⌜ r ≡ at + length (lineOf (getD rowKeys j []) v) ⌝ }
     ensures bytes { λ r. ⌜ now (out .exit) ≡ putAt (now (out .entry)) at (lineOf (getD rowKeys j []) v) ⌝ }
 {
@@ -31,13 +31,14 @@ fn put_due(out: &mut [u8], at: usize, j: usize, v: u64) -> usize
         2 => put_line(out, at, b"t=", v),
         3 => put_line(out, at, b"d=", v),
         4 => put_line(out, at, b"m=", v),
-        _ => put_line(out, at, b"k=", v),
+        5 => put_line(out, at, b"k=", v),
+        _ => put_line(out, at, b"p=", v),
     }
 }
 
 // The whole text, from the start of a run that has room for it; answers its length.
 fn put_text(words: &[u32], rows: usize, out: &mut [u8]) -> usize
-    requires { ⌜ (length (now words) ≡ rows * 6) × (rows ≤ 32) × (length (textOf rowKeys (now words)) ≤ length (now out)) ⌝ }
+    requires { ⌜ (length (now words) ≡ rows * 7) × (rows ≤ 32) × (length (textOf rowKeys (now words)) ≤ length (now out)) ⌝ }
     ensures place { λ r. ⌜ r ≡ length (textOf rowKeys (now (words .entry))) ⌝ }
     ensures bytes { λ r. ⌜ now (out .exit) ≡ putAt (now (out .entry)) 0 (textOf rowKeys (now (words .entry))) ⌝ }
 {
@@ -60,7 +61,7 @@ pub fn write(words: &[u32], room: &mut [u8]) -> Written
         Checked::Rows(rows) => rows,
         Checked::Refused(refusal) => return Written::Refused(refusal),
     };
-    let mut text = [0u8; 1384];
+    let mut text = [0u8; 1512];
     let n = put_text(words, rows, &mut text);
     if room.len() < n {
         return Written::Refused(Refusal::Room);

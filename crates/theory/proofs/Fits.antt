@@ -8,7 +8,7 @@ use lib.ListN.{length}
 use borrow.Author.Tests.{eqb-true, eqb-false, leb-true, leb-false, le-leb, not-true, not-false}
 use Rattle.law.specs.Table.{Task, row}
 use Rattle.law.specs.Verdict.{load, fitsAt, response, fits, misfit, admitted}
-use Rattle.law.proofs.First.{first-high, first-found, first-before, first-least}
+use Rattle.law.proofs.First.{first-low, first-high, first-found, first-before, first-least}
 
 -- a row that fits has a response time up to its deadline, at which its load fits; no earlier tick does
 module _ (tasks : List Task) (i : ℕ) where
@@ -19,6 +19,10 @@ module _ (tasks : List Task) (i : ℕ) where
   pub fits-load : fits tasks i ≡ true → load tasks i (response tasks i) ≤ response tasks i
   unfolding response fitsAt
   fits-load e = leb-true _ _ (first-found (fitsAt tasks i) 1 (row tasks i .d) (omega (arith, fits-deadline e)))
+
+  pub response-low : 1 ≤ response tasks i
+  unfolding response
+  response-low = first-low (fitsAt tasks i) 1 (row tasks i .d)
 
   pub response-least : (n : ℕ) → 1 ≤ n → load tasks i n ≤ n → response tasks i ≤ n
   unfolding response fitsAt

@@ -2,6 +2,7 @@ pub mod Queue
 pub mod Rows
 pub mod Clock
 pub mod Fits
+pub mod Easing
 pub mod Trace
 pub mod Life
 pub mod Bound

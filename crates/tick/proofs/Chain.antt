@@ -7,8 +7,7 @@ use native.Mathlib.Omega.{arith}
 use lib.Dec.{eqb}
 use lib.ListN.{length, getD, set}
 use Rattle.law.specs.Sums.{bit}
-use Rattle.law.specs.Table.{Task, row}
-use Rattle.law.specs.Pattern.{word}
+use Rattle.law.specs.Table.{Task, row, wordOf}
 use Rattle.law.specs.Tick.{Row, State, choose, fullLength, begin, finish, tick, run, clockEnd}
 use Rattle.law.specs.State.{stateOf, laid, tasksOf}
 use Rattle.law.specs.Sound.{SoundState}
@@ -82,5 +81,5 @@ fetched-still {rows} {again} {patterns} e f =
     record {
       enough = omega (arith, f .enough);
       at = λ i h. f .at i (omega arith)
-          ∙ ap (λ (z : Task). word (z .m) (z .k)) (sym (task-at rows i) ∙ ap (λ (z : List Task). row z i) (sym e) ∙ task-at again i);
+          ∙ ap wordOf (sym (task-at rows i) ∙ ap (λ (z : List Task). row z i) (sym e) ∙ task-at again i);
     }

@@ -4,7 +4,7 @@ ghost use Prim.Native.Nat.{_+_, _≤_, _<_};
 ghost use lib.Dec.{eqb, ltb};
 ghost use Rattle.law.specs.Sums.{bit, both, pick};
 ghost use lib.ListN.{length, getD};
-ghost use Rattle.law.specs.Pattern.{word as patternWord};
+ghost use Rattle.law.specs.Table.{wordOf};
 ghost use Rattle.law.specs.Tick.{noRow, coreAt, releaseRow, advanceRow, choose as chooseLaw, fullLength, begin, tick as tickLaw, run as runLaw, clockEnd};
 ghost use Rattle.law.specs.State.{stateOf, laid, withRow};
 ghost use Rattle.rows.specs.Said.{Timed, Laid, Held, Fetched, advancedState, countedTick};
@@ -28,12 +28,12 @@ pub fn rows_of(words: &[u64]) -> usize
     words[0] as usize
 }
 
-// Step 1 for row i: it releases where its wait, word 6 of a row, is 0.
+// Step 1 for row i: it releases where its wait, word 7 of a row, is 0.
 fn release_one(words: &mut [u64], i: usize, pattern: u64)
-    requires { ⌜ (Laid (now words)) × (i < length (stateOf (now words) .rows)) × (Timed 0 (getD (stateOf (now words) .rows) i noRow)) × (pattern ≡ patternWord (coreAt (stateOf (now words) .rows) i .task .m) (coreAt (stateOf (now words) .rows) i .task .k)) ⌝ }
+    requires { ⌜ (Laid (now words)) × (i < length (stateOf (now words) .rows)) × (Timed 0 (getD (stateOf (now words) .rows) i noRow)) × (pattern ≡ wordOf (coreAt (stateOf (now words) .rows) i .task)) ⌝ }
     ensures { λ _. ⌜ now (words .exit) ≡ laid (withRow (stateOf (now (words .entry))) i (releaseRow (coreAt (stateOf (now (words .entry)) .rows) i .task .c) (getD (stateOf (now (words .entry)) .rows) i noRow))) ⌝ }
 {
-    if word(words, i, 6) != 0 {
+    if word(words, i, 7) != 0 {
         return;
     }
     let r = row_at(words, i);
@@ -49,13 +49,13 @@ fn settle_one(words: &mut [u64], i: usize, chosen: bool)
     put_row(words, i, advanced(r, chosen));
 }
 
-// Steps 3 and 4 for row i. Most rows settle nothing in most ticks: these change at most three words, 6, 8 and 9 of a row.
+// Steps 3 and 4 for row i. Most rows settle nothing in most ticks: these change at most three words, 7, 9 and 10 of a row.
 fn advance_one(words: &mut [u64], i: usize, chosen: bool)
     requires { ⌜ (Laid (now words)) × (i < length (stateOf (now words) .rows)) × (Timed 1 (getD (stateOf (now words) .rows) i noRow)) ⌝ }
     ensures { λ _. ⌜ now (words .exit) ≡ laid (withRow (stateOf (now (words .entry))) i (advanceRow chosen (getD (stateOf (now (words .entry)) .rows) i noRow))) ⌝ }
 {
-    let wait = word(words, i, 6) - 1;
-    let work = word(words, i, 8);
+    let wait = word(words, i, 7) - 1;
+    let work = word(words, i, 9);
     if work == 0 {
         put_wait(words, i, wait);
         return;
@@ -65,7 +65,7 @@ fn advance_one(words: &mut [u64], i: usize, chosen: bool)
         settle_one(words, i, chosen);
         return;
     }
-    let left = word(words, i, 9);
+    let left = word(words, i, 10);
     if left == 1 {
         settle_one(words, i, chosen);
         return;
@@ -97,7 +97,7 @@ fn earlier(found: usize, rows: usize, i: usize, work: u64) -> usize
 }
 
 // Step 2: the mandatory live job of the highest row; if there is none, the optional one of the highest row; if none, the number of rows.
-// Words 8 and 10 of a row are its live job's work and kind.
+// Words 9 and 11 of a row are its live job's work and kind.
 fn choose(words: &[u64]) -> usize
     requires { ⌜ Laid (now words) ⌝ }
     ensures { λ r. ⌜ r ≡ chooseLaw (stateOf (now (words .entry)) .rows) ⌝ }
@@ -106,8 +106,8 @@ fn choose(words: &[u64]) -> usize
     let mut optional = rows;
     let mut i = 0;
     while i < rows {
-        let work = word(words, i, 8);
-        if is_urgent(work, word(words, i, 10)) {
+        let work = word(words, i, 9);
+        if is_urgent(work, word(words, i, 11)) {
             return i;
         }
         optional = earlier(optional, rows, i, work);

@@ -1,12 +1,30 @@
 // The pattern words of a state's rows, fetched once for a run, from a book that is laid once.
 ghost use mathlib.Core.Path.{_≡_};
+ghost use Prim.Native.Nat.{_<_};
 ghost use lib.ListN.{length};
+ghost use Rattle.law.specs.Pattern.{theBook};
+ghost use Rattle.law.specs.Table.{wordOf};
+ghost use Rattle.law.specs.Tick.{coreAt};
 ghost use Rattle.law.specs.State.{stateOf};
 ghost use Rattle.rows.specs.Said.{Held, Fetched};
 use crate::rows_of;
+use book::low_bits;
 use book::the_book;
 use book::word_in;
 use rows::word;
+
+// The word of a row's own pattern: that of an even one stands in the book at its m and k (words 4 and 5 of a row); a deeply-red one (word 6 is 1)
+// has its first m bits set.
+fn pattern_of(book: &[u64; 2080], words: &[u64], i: usize) -> u64
+    requires { ⌜ (now book ≡ theBook) × (Held 0 (now words)) × (i < length (stateOf (now words) .rows)) ⌝ }
+    ensures { λ r. ⌜ r ≡ wordOf (coreAt (stateOf (now (words .entry)) .rows) i .task) ⌝ }
+{
+    let m = word(words, i, 4);
+    if word(words, i, 6) == 1 {
+        return low_bits(m);
+    }
+    word_in(book, m, word(words, i, 5))
+}
 
 // The pattern word of each row.
 pub fn fetch(words: &[u64]) -> [u64; 32]
@@ -18,7 +36,7 @@ pub fn fetch(words: &[u64]) -> [u64; 32]
     let mut patterns = [0u64; 32];
     let mut i = 0;
     while i < rows {
-        patterns[i] = word_in(&book, word(words, i, 4), word(words, i, 5));
+        patterns[i] = pattern_of(&book, words, i);
         i += 1;
     }
     patterns

@@ -56,7 +56,7 @@ fn answer_all(text: &[u8]) {
 }
 
 fn main() {
-    let mut text = [0u8; 262144];
+    let mut text = [0u8; 524288];
     let n = io::read_full(STDIN_FILENO, &mut text);
     answer_all(&text[..n]);
 }

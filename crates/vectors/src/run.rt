@@ -1,4 +1,4 @@
-// Operations over a state, which stands in a room of the length asked, at most 640: 5 fresh, 6 run, 7 counts, 11 met marks.
+// Operations over a state, which stands in a room of the length asked, at most 672: 5 fresh, 6 run, 7 counts, 11 met marks.
 use crate::numbers::low_at;
 use crate::numbers::number_at;
 use crate::numbers::wide_part_of;
@@ -25,7 +25,7 @@ fn fresh_in(table: &[u32], state: &mut [u64]) {
 // `5 length words`: the number of rows, and the state.
 pub(crate) fn fresh(case: &[u64]) {
     let mut table = [0u32; 256];
-    let mut state = [BEFORE as u64; 640];
+    let mut state = [BEFORE as u64; 672];
     let n = words_of(case, 2, &mut table);
     let length = wide_part_of(case, 1, &state);
     fresh_shown(&table[..n], &mut state[..length]);
@@ -70,7 +70,7 @@ fn damaged_in(case: &[u64], table: &[u32], state: &mut [u64]) {
 // each but the change, and the state.
 pub(crate) fn damaged(case: &[u64]) {
     let mut table = [0u32; 256];
-    let mut state = [BEFORE as u64; 640];
+    let mut state = [BEFORE as u64; 672];
     let n = words_of(case, 6, &mut table);
     let length = wide_part_of(case, 1, &state);
     damaged_in(case, &table[..n], &mut state[..length]);
@@ -86,7 +86,7 @@ fn counts_in(case: &[u64], table: &[u32], state: &mut [u64], room: &mut [u64]) {
 // most 16; an answer of each but the change, and every word of the room.
 pub(crate) fn counts(case: &[u64]) {
     let mut table = [0u32; 256];
-    let mut state = [BEFORE as u64; 640];
+    let mut state = [BEFORE as u64; 672];
     let mut room = [BEFORE as u64; 16];
     let n = words_of(case, 7, &mut table);
     let length = wide_part_of(case, 1, &state);
@@ -106,7 +106,7 @@ fn held_in(case: &[u64], table: &[u32], state: &mut [u64]) {
 // change.
 pub(crate) fn held(case: &[u64]) {
     let mut table = [0u32; 256];
-    let mut state = [BEFORE as u64; 640];
+    let mut state = [BEFORE as u64; 672];
     let n = words_of(case, 6, &mut table);
     let length = wide_part_of(case, 1, &state);
     held_in(case, &table[..n], &mut state[..length]);

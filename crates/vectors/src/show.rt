@@ -80,14 +80,14 @@ fn digest(room: &[u64]) -> u64 {
 
 // How many words a head and so many rows have; a head alone, where no state has as many.
 fn words_of_rows(rows: u64) -> u64 {
-    if rows <= 32 { 3 + 19 * rows } else { 3 }
+    if rows <= 32 { 3 + 20 * rows } else { 3 }
 }
 
 // How many words of a state are worth printing. A room too short for a state has none.
 fn state_length(state: &[u64]) -> usize
     ensures { λ r. ⌜ Counts r (now (state .entry)) ⌝ }
 {
-    if state.len() < 611 {
+    if state.len() < 643 {
         return 0;
     }
     held(words_of_rows(state[0]), state.len())

@@ -2,8 +2,8 @@
 ghost use mathlib.Core.Path.{_≡_};
 ghost use Prim.Native.Nat.{_≤_, _<_};
 ghost use lib.ListN.{length, take};
-ghost use Rattle.law.specs.Pattern.{InRange, count as countLaw};
-ghost use Rattle.law.specs.Table.{tableOf, Ranged, WellFormed};
+ghost use Rattle.law.specs.Pattern.{InRange, count as countLaw, redCount};
+ghost use Rattle.law.specs.Table.{tableOf, countOf, Ranged, WellFormed};
 ghost use Rattle.law.specs.Verdict.{demand as demandLaw, load as loadLaw, misfit, responses, verdict, verdictRoom};
 ghost use Rattle.table.specs.Said.{taskSaid};
 ghost use Rattle.verdict.specs.Said.{shown, fitOf};
@@ -33,12 +33,34 @@ struct Responses {
     pub times: [u32; 32],
 }
 
-// How many of the first q jobs are mandatory.
-fn count(m: u64, k: u64, q: u64) -> u64
+// How many of the first q jobs of an even pattern are mandatory.
+fn even_count(m: u64, k: u64, q: u64) -> u64
     requires { ⌜ (InRange m k) × (q ≤ 65535) ⌝ }
     ensures { λ r. ⌜ r ≡ countLaw m k q ⌝ }
 {
     (q * m + (k - 1)) / k
+}
+
+// How many of the first q jobs of a deeply-red pattern are: m of every k, and of the last q mod k as many as are left of m.
+fn red_count(m: u64, k: u64, q: u64) -> u64
+    requires { ⌜ (InRange m k) × (q ≤ 65535) ⌝ }
+    ensures { λ r. ⌜ r ≡ redCount m k q ⌝ }
+{
+    let part = q % k;
+    let whole = q / k * m;
+    if part <= m { whole + part } else { whole + m }
+}
+
+// How many of a row's first q jobs are mandatory, by its own pattern.
+fn count(r: Task, q: u64) -> u64
+    requires { ⌜ (Ranged (taskSaid r)) × (q ≤ 65535) ⌝ }
+    ensures { λ n. ⌜ n ≡ countOf (taskSaid r) q ⌝ }
+{
+    if r.p == 1 {
+        red_count(r.m, r.k, q)
+    } else {
+        even_count(r.m, r.k, q)
+    }
 }
 
 // What a row above brings by t: C for each mandatory job that it releases before t.
@@ -47,7 +69,7 @@ fn demand(r: Task, t: u64) -> u64
     ensures { λ n. ⌜ n ≡ demandLaw (taskSaid r) t ⌝ }
 {
     let q = (t + (r.t - 1)) / r.t;
-    r.c * count(r.m, r.k, q)
+    r.c * count(r, q)
 }
 
 // The load of a row at t: its own C and what every row above brings.

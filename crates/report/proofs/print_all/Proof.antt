@@ -61,36 +61,36 @@ answered r = r .before .before .before .before
 abbrev text : tie.After-read → List ℕ
 text r = drop (answered r .answer .given .0 .1 .0) (input (lineOf (answered r)))
 
-reading : (r : tie.After-read) → shown (r .read .result) ≡ readAnswer (text r) 192
-reading r = r .read .ensures .0 ∙ ap (λ (z : List ℕ). readAnswer z 192) (all-behind (answered r .answer .given .0 .1 .0) (input (lineOf (answered r))))
+reading : (r : tie.After-read) → shown (r .read .result) ≡ readAnswer (text r) 224
+reading r = r .read .ensures .0 ∙ ap (λ (z : List ℕ). readAnswer z 224) (all-behind (answered r .answer .given .0 .1 .0) (input (lineOf (answered r))))
 
-filled : (r : tie.After-read) → r .read .last .1 .0 ≡ readRoom (text r) (replicate 192 0)
+filled : (r : tie.After-read) → r .read .last .1 .0 ≡ readRoom (text r) (replicate 224 0)
 filled r =
-    r .read .ensures .1 ∙ ap (λ (z : List ℕ). readRoom z (replicate 192 0)) (all-behind (answered r .answer .given .0 .1 .0) (input (lineOf (answered r))))
+    r .read .ensures .1 ∙ ap (λ (z : List ℕ). readRoom z (replicate 224 0)) (all-behind (answered r .answer .given .0 .1 .0) (input (lineOf (answered r))))
 
 -- a text that is a table: its words stand in front
 abbrev readOf : tie.After-rows → tie.After-read
 readOf w = w .before .before .before
 
-good : (w : tie.After-rows) → readAnswer (text (readOf w)) 192 ≡ accepted (w .rows .given .0 .0 ∷ [])
+good : (w : tie.After-rows) → readAnswer (text (readOf w)) 224 ≡ accepted (w .rows .given .0 .0 ∷ [])
 good w = sym (sym (ap shown (w .rows .given .1)) ∙ reading (readOf w))
 
-trip : (w : tie.After-rows) → Trip (text (readOf w)) 192 (w .rows .given .0 .0 ∷ [])
-trip w = read-write (text (readOf w)) 192 _ (good w)
+trip : (w : tie.After-rows) → Trip (text (readOf w)) 224 (w .rows .given .0 .0 ∷ [])
+trip w = read-write (text (readOf w)) 224 _ (good w)
 
-six : (w : tie.After-rows) → length (wordsRead (text (readOf w))) ≡ w .rows .given .0 .0 * 6
-six w = let t = trip w in t .whole ∙ ap (λ (z : List ℕ). head z * 6) (sym (t .rows))
+six : (w : tie.After-rows) → length (wordsRead (text (readOf w))) ≡ w .rows .given .0 .0 * 7
+six w = let t = trip w in t .whole ∙ ap (λ (z : List ℕ). head z * 7) (sym (t .rows))
 
-laid : (w : tie.After-rows) → readOf w .read .last .1 .0 ≡ wordsRead (text (readOf w)) ++ drop (length (wordsRead (text (readOf w)))) (replicate 192 0)
-laid w = filled (readOf w) ∙ read-filled (text (readOf w)) (replicate 192 0) (good w)
+laid : (w : tie.After-rows) → readOf w .read .last .1 .0 ≡ wordsRead (text (readOf w)) ++ drop (length (wordsRead (text (readOf w)))) (replicate 224 0)
+laid w = filled (readOf w) ∙ read-filled (text (readOf w)) (replicate 224 0) (good w)
 
-front : (w : tie.After-rows) → take (w .rows .given .0 .0 * 6) (readOf w .read .last .1 .0) ≡ wordsRead (text (readOf w))
+front : (w : tie.After-rows) → take (w .rows .given .0 .0 * 7) (readOf w .read .last .1 .0) ≡ wordsRead (text (readOf w))
 front w =
-    ap (take (w .rows .given .0 .0 * 6)) (laid w)
-    ∙ take-at (wordsRead (text (readOf w))) _ (w .rows .given .0 .0 * 6) (six w)
+    ap (take (w .rows .given .0 .0 * 7)) (laid w)
+    ∙ take-at (wordsRead (text (readOf w))) _ (w .rows .given .0 .0 * 7) (six w)
 
 -- a refused one
-refusedOf : (r : tie.After-r) → readAnswer (text (r .before .before .before)) 192 ≡ refused (numberOf (r .r .given .0 .0)) (alsoOf (r .r .given .0 .0))
+refusedOf : (r : tie.After-r) → readAnswer (text (r .before .before .before)) 224 ≡ refused (numberOf (r .r .given .0 .0)) (alsoOf (r .r .given .0 .0))
 refusedOf r = sym (sym (ap shown (r .r .given .1)) ∙ reading (r .before .before .before))
 
 slice-aggregate-line-at : tie.Need-slice-aggregate-line-at
@@ -150,7 +150,7 @@ mul-words c = let w = c .before .before in omega (arith, six w, trip w .fits)
 array-share-prefix-words : tie.Need-array-share-prefix-words
 array-share-prefix-words c =
     let w = c .before .before in
-    omega (arith, ap length (laid w), length-append (wordsRead (text (readOf w))) (drop (length (wordsRead (text (readOf w)))) (replicate 192 0)), six w)
+    omega (arith, ap length (laid w), length-append (wordsRead (text (readOf w))) (drop (length (wordsRead (text (readOf w)))) (replicate 224 0)), six w)
 
 slice-aggregate-print-run : tie.Need-slice-aggregate-print-run
 slice-aggregate-print-run c = let w = c .before .before .before in sym (ap length (front w) ∙ six w)
@@ -171,7 +171,7 @@ print-refusal-requires-2 c κs =
     let r = c .before .before in
     let a = answered (r .before .before .before) in (
       begun (lineOf a) .pre,
-      omega (arith, refused-small _ 192 _ _ (refusedOf r), line-reach (input (lineOf a)) 0 ticksKey, ap reached (line a)),
+      omega (arith, refused-small _ 224 _ _ (refusedOf r), line-reach (input (lineOf a)) 0 ticksKey, ap reached (line a)),
     )
 
 same-length-2 : tie.Need-same-length-2
@@ -182,7 +182,7 @@ returns-2 c =
     let w = c .before .before .before .before .before .before in
     let a = answered (readOf w) in
     let q = c .before .before .print-run .ensures in
-    let e : runPrinted (tableOf (take (w .rows .given .0 .0 * 6) (readOf w .read .last .1 .0))) (a .answer .given .0 .0) ≡ printed (input (lineOf a)) =
+    let e : runPrinted (tableOf (take (w .rows .given .0 .0 * 7) (readOf w .read .last .1 .0))) (a .answer .given .0 .0) ≡ printed (input (lineOf a)) =
     ap (λ (z : List ℕ). runPrinted (tableOf z) (a .answer .given .0 .0)) (front w) ∙ sym (printed-run (input (lineOf a)) (line a) (good w)) in
     (q .0 ∙ ap length e, q .1 ∙ ap (putAt _ 0) e)
 

@@ -181,6 +181,15 @@ mul-words-19 c = search needs
 slice-write-words-19 : tie.Need-slice-write-words-19
 slice-write-words-19 c = simp length-set (omega arith)
 
+add-words-20 : tie.Need-add-words-20
+add-words-20 c = search needs
+
+mul-words-20 : tie.Need-mul-words-20
+mul-words-20 c = search needs
+
+slice-write-words-20 : tie.Need-slice-write-words-20
+slice-write-words-20 c = simp length-set (omega arith)
+
 same-length : tie.Need-same-length
 same-length c = simp length-set
 
@@ -250,5 +259,8 @@ put-row-spec =
     add-words-19
     mul-words-19
     slice-write-words-19
+    add-words-20
+    mul-words-20
+    slice-write-words-20
     same-length
     returns)

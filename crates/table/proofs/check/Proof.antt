@@ -17,10 +17,10 @@ positive n h = lt-ltb 0 n (omega arith)
 nought : (n : ℕ) → n ≡ 0 → ltb 0 n ≡ false
 nought n e = le-ltb 0 n (omega arith)
 
-whole : (c : tie.Else1) → eqb (length (c .before .before .args .words .now) % 6) 0 ≡ true
+whole : (c : tie.Else1) → eqb (length (c .before .before .args .words .now) % 7) 0 ≡ true
 whole c = eq-eqb _ 0 (c .if1 .left)
 
-some : (c : tie.Else2) → ltb 0 (length (c .before .before .before .args .words .now) / 6) ≡ true
+some : (c : tie.Else2) → ltb 0 (length (c .before .before .before .args .words .now) / 7) ≡ true
 some c = positive _ (c .if2 .left)
 
 returns : tie.Need-returns

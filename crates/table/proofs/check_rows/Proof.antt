@@ -20,10 +20,10 @@ fault : List ℕ → ℕ → Bool
 fault words i = not (eqb (rowFault (tableOf words) i) 0)
 
 abbrev Inv-loop : tie.InvT-loop
-Inv-loop words rows i₀ i = Searched (fault words) (length words / 6) i
+Inv-loop words rows i₀ i = Searched (fault words) (length words / 7) i
 
 abbrev μ-loop : tie.MeasureT-loop
-μ-loop words rows i₀ i = length words / 6 - i
+μ-loop words rows i₀ i = length words / 7 - i
 
 abbrev Read : Type 0
 Read = tie.After-row-fault Inv-loop μ-loop
@@ -41,7 +41,7 @@ told c =
     ∙ ap (λ (z : Bool). faultOf (row (tableOf (start c .args .words .now)) (l .i)) z) (c .before .is-repeated .ensures)
 
 -- the search of the loop is the law's
-faulty-is : (words : List ℕ) (i : ℕ) → first (fault words) (length words / 6) ≡ i → faulty (tableOf words) ≡ i
+faulty-is : (words : List ℕ) (i : ℕ) → first (fault words) (length words / 7) ≡ i → faulty (tableOf words) ≡ i
 unfolding faulty fault
 faulty-is words i e = ap (first (fault words)) (table-length words) ∙ e
 

@@ -18,7 +18,7 @@ same : List ℕ → ℕ → ℕ → Bool
 same words i j = eqb (row (tableOf words) j .id) (row (tableOf words) i .id)
 
 -- the test at an earlier row, by what `task_at` read of both
-tells : (words : List ℕ) (i j x y : ℕ) → i < length words / 6 → j < length words / 6 → x ≡ taskAt words j .id → y ≡ taskAt words i .id
+tells : (words : List ℕ) (i j x y : ℕ) → i < length words / 7 → j < length words / 7 → x ≡ taskAt words j .id → y ≡ taskAt words i .id
     → same words i j ≡ eqb x y
 unfolding same
 tells words i j x y hi hj ex ey =
@@ -27,7 +27,7 @@ tells words i j x y hi hj ex ey =
     ∙ ap (λ (z : ℕ). eqb z (taskAt words i .id)) (sym ex) ∙ ap (λ (z : ℕ). eqb x z) (sym ey)
 
 abbrev Inv-loop : tie.InvT-loop
-Inv-loop words i id j₀ j = (Searched (same words i) i j) × (i < length words / 6) × (id ≡ taskAt words i .id)
+Inv-loop words i id j₀ j = (Searched (same words i) i j) × (i < length words / 7) × (id ≡ taskAt words i .id)
 
 abbrev μ-loop : tie.MeasureT-loop
 μ-loop words i id j₀ j = i - j

@@ -2,7 +2,9 @@
 use mathlib.Core.Bool.{true}
 use mathlib.Core.Path.{_≡_, sym, _∙_}
 use borrow.Author.Needs.{needs}
-use borrow.Author.Tests.{not-true, not-false}
+use native.Mathlib.Omega.{arith}
+use lib.Dec.{leb}
+use borrow.Author.Tests.{not-true, not-false, le-leb, lt-leb}
 use Rattle.law.specs.Refusal.{within}
 use Rattle.law.specs.Table.{faultOf}
 use Rattle.table.proofs.row_fault.Statement.{statement}
@@ -68,13 +70,20 @@ returns-6 : tie.Need-returns-6
 unfolding faultOf
 returns-6 c = simp (id-good (c .before .before .before .before .before .before .before .before .before .before), t-good (c .before .before .before .before .before .before .before .before), d-good (c .before .before .before .before .before .before), c-good (c .before .before .before .before), k-good (c .before .before), sym (c .before .is-within6 .ensures) ∙ not-true _ (c .if6 .taken))
 
+p-good : (c : tie.Else7) → leb (c .before .before .before .before .before .before .before .before .before .before .before .before .before .before .args .r .p) 1 ≡ true
+p-good c = le-leb (c .before .before .before .before .before .before .before .before .before .before .before .before .before .before .args .r .p) 1 (omega (arith, c .if7 .left))
+
 returns-7 : tie.Need-returns-7
 unfolding faultOf
-returns-7 c = simp (id-good (c .before .before .before .before .before .before .before .before .before .before .before), t-good (c .before .before .before .before .before .before .before .before .before), d-good (c .before .before .before .before .before .before .before), c-good (c .before .before .before .before .before), k-good (c .before .before .before), m-good (c .before), c .if7 .taken)
+returns-7 c = simp (id-good (c .before .before .before .before .before .before .before .before .before .before .before .before), t-good (c .before .before .before .before .before .before .before .before .before .before), d-good (c .before .before .before .before .before .before .before .before), c-good (c .before .before .before .before .before .before), k-good (c .before .before .before .before), m-good (c .before .before), lt-leb _ 1 (c .if7 .taken))
 
 returns-8 : tie.Need-returns-8
 unfolding faultOf
-returns-8 c = simp (id-good (c .before .before .before .before .before .before .before .before .before .before .before), t-good (c .before .before .before .before .before .before .before .before .before), d-good (c .before .before .before .before .before .before .before), c-good (c .before .before .before .before .before), k-good (c .before .before .before), m-good (c .before), c .if7 .left)
+returns-8 c = simp (id-good (c .before .before .before .before .before .before .before .before .before .before .before .before .before), t-good (c .before .before .before .before .before .before .before .before .before .before .before), d-good (c .before .before .before .before .before .before .before .before .before), c-good (c .before .before .before .before .before .before .before), k-good (c .before .before .before .before .before), m-good (c .before .before .before), p-good (c .before), c .if8 .taken)
+
+returns-9 : tie.Need-returns-9
+unfolding faultOf
+returns-9 c = simp (id-good (c .before .before .before .before .before .before .before .before .before .before .before .before .before), t-good (c .before .before .before .before .before .before .before .before .before .before .before), d-good (c .before .before .before .before .before .before .before .before .before), c-good (c .before .before .before .before .before .before .before), k-good (c .before .before .before .before .before), m-good (c .before .before .before), p-good (c .before), c .if8 .left)
 
 pub row-fault-spec : {M : Type 1} → statement M
-row-fault-spec = tie.close (tie.spec is-within-requires returns is-within-requires-2 returns-2 is-within-requires-3 returns-3 is-within-requires-4 returns-4 is-within-requires-5 returns-5 is-within-requires-6 returns-6 returns-7 returns-8)
+row-fault-spec = tie.close (tie.spec is-within-requires returns is-within-requires-2 returns-2 is-within-requires-3 returns-3 is-within-requires-4 returns-4 is-within-requires-5 returns-5 is-within-requires-6 returns-6 returns-7 returns-8 returns-9)

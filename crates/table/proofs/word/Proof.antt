@@ -20,7 +20,7 @@ shared-slice-read-result c = search needs
 cast-result : tie.Need-cast-result
 cast-result c =
     let a = c .before .args in
-    omega (arith, c .shared-slice-known .given (a .row * 6 + a .j))
+    omega (arith, c .shared-slice-known .given (a .row * 7 + a .j))
 
 returns : tie.Need-returns
 returns c = search needs

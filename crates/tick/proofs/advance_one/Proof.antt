@@ -59,7 +59,7 @@ returns c =
     let s = start w2 in
     let r = held s in
     a .put-wait .ensures
-    ∙ wait-put (s .pre .0) (s .args .i) _ (waited r) (s .pre .1) (ap (λ (z : ℕ). set (wordsOf r) 6 (z - 1)) (sym (wait-read (w2 .before .before))))
+    ∙ wait-put (s .pre .0) (s .args .i) _ (waited r) (s .pre .1) (ap (λ (z : ℕ). set (wordsOf r) 7 (z - 1)) (sym (wait-read (w2 .before .before))))
     ∙ ap (λ (z : Row). laid (withRow (stateOf (s .args .words .now)) (s .args .i) z))
     (rests (s .args .chosen) r (is-resting (s .pre .2 .sound .core) (sym (work-read w2) ∙ a .before .before .if1 .taken)))
 

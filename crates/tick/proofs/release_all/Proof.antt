@@ -2,7 +2,7 @@
 use mathlib.Core.Path.{sym, ap, _∙_, subst}
 use Prim.Native.Nat.{_-_}
 use native.Mathlib.Omega.{arith}
-use Rattle.law.specs.Pattern.{word}
+use Rattle.law.specs.Table.{wordOf}
 use Rattle.law.specs.Tick.{Row, fullLength, releaseRow, releaseAll, begin}
 use Rattle.law.specs.State.{stateOf}
 use Rattle.law.specs.Sound.{SoundState, SoundRow}
@@ -46,7 +46,7 @@ release-one-requires c κs =
         early = s .time;
         sound = subst (SoundRow 0 _) (sym (mapped-row m)) (s .rows (l .i) (omega (arith, m .total)));
       },
-      l .inv .2 .at (l .i) (omega (arith, m .total)) ∙ ap (λ (z : Row). word (z .core .task .m) (z .core .task .k)) (sym (mapped-row m)),
+      l .inv .2 .at (l .i) (omega (arith, m .total)) ∙ ap (λ (z : Row). wordOf (z .core .task)) (sym (mapped-row m)),
     )
 
 add-i : tie.Need-add-i Inv-loop μ-loop

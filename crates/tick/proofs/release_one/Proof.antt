@@ -2,7 +2,7 @@
 use mathlib.Core.Path.{_≡_, sym, ap, _∙_, subst}
 use native.Mathlib.Omega.{arith}
 use lib.ListN.{getD}
-use Rattle.law.specs.Pattern.{word}
+use Rattle.law.specs.Table.{wordOf}
 use Rattle.law.specs.Tick.{Row, noRow, releaseRow}
 use Rattle.law.specs.State.{rowOf, stateOf, laid, withRow}
 use Rattle.rows.specs.Said.{rowSaid, Timed}
@@ -45,7 +45,7 @@ released-requires c κs =
     let s = start a in (
       subst (Timed 0) (sym (read a)) (s .pre .2),
       ap (λ (z : Row). z .core .wait) (read a) ∙ sym (wait-read (a .before .before .before)) ∙ a .before .before .if1 .left,
-      s .pre .3 ∙ ap (λ (z : Row). word (z .core .task .m) (z .core .task .k)) (sym (read a)),
+      s .pre .3 ∙ ap (λ (z : Row). wordOf (z .core .task)) (sym (read a)),
     )
 
 put-row-requires : tie.Need-put-row-requires

@@ -1,33 +1,24 @@
--- `verdict::count` meets its contract: the quotient is the law's ceiling, and nothing in it is large.
-use mathlib.Core.Path.{refl}
-use Prim.Native.Nat.{_*_, _≤_}
-use native.Mathlib.Nat.{mul-le-mul}
-use native.Mathlib.Omega.{arith}
-use Rattle.law.specs.Sums.{ceil}
-use Rattle.law.specs.Pattern.{count}
+-- `verdict::count` meets its contract: each pattern's count by the row's p.
+use mathlib.Core.Path.{sym, _∙_}
 use borrow.Author.Needs.{needs}
+use borrow.Author.Tests.{eq-eqb, ne-eqb}
+use Rattle.law.specs.Table.{countOf}
 use Rattle.verdict.proofs.count.Statement.{statement}
 use Rattle.verdict.proofs.count.Tie as tie
 
-small : (c : tie.Start) → c .args .q * c .args .m ≤ 65535 * 64
-small c =
-    mul-le-mul {n₁ = c .args .q} {m₁ = c .args .m} {n₂ = 65535} {m₂ = 64} (c .pre .1) (omega arith)
-
-mul-result : tie.Need-mul-result
-mul-result c = omega (arith, small c)
-
-sub-result : tie.Need-sub-result
-sub-result c = search needs
-
-add-result : tie.Need-add-result
-add-result c = omega (arith, small c)
-
-div-result : tie.Need-div-result
-div-result c = search needs
+red-count-requires : tie.Need-red-count-requires
+red-count-requires c κs = search needs
 
 returns : tie.Need-returns
-unfolding count ceil
-returns c = refl
+unfolding countOf
+returns c = rw (eq-eqb _ 1 (c .before .if1 .taken)) (c .red-count .ensures)
+
+even-count-requires : tie.Need-even-count-requires
+even-count-requires c κs = search needs
+
+returns-2 : tie.Need-returns-2
+unfolding countOf
+returns-2 c = rw (ne-eqb _ 1 (c .before .if1 .left)) (c .even-count .ensures)
 
 pub count-spec : {M : Type 1} → statement M
-count-spec = tie.close (tie.spec mul-result sub-result add-result div-result returns)
+count-spec = tie.close (tie.spec red-count-requires even-count-requires returns returns-2)

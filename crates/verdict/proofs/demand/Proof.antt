@@ -27,7 +27,7 @@ unfolding ceil
 count-requires c κs =
     let a = c .before .before .args in
     let r = c .before .before .pre .0 in
-    (r .pair, omega (arith, c .before .before .pre .1, ceil-least (a .t) (a .r .t) (a .t) (r .t-low) (omega (arith, mul-le-mul-left (a .t) (r .t-low), mul-one (a .t)))))
+    (r, omega (arith, c .before .before .pre .1, ceil-least (a .t) (a .r .t) (a .t) (r .t-low) (omega (arith, mul-le-mul-left (a .t) (r .t-low), mul-one (a .t)))))
 
 abbrev start : tie.After-struct-known3 → tie.Start
 start c = c .before .before .before .before

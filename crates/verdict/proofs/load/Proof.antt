@@ -19,7 +19,7 @@ brought words t j = sum (λ j. demand (row (tableOf words) j) t) j
 
 record Loaded (words : List ℕ) (i t total j : ℕ) : Type 0 where
   table : WellFormed (tableOf words)
-  is-row : i < length words / 6
+  is-row : i < length words / 7
   tick : t ≤ 65535
   reached : j ≤ i
   small : total ≤ 65535 + j * (65535 * 65535)
@@ -63,7 +63,7 @@ unfolding brought sum
 loop-holds c =
     let s = c .before .before in
     let words = s .args .words .now in
-    let h : s .args .row < length words / 6 = omega (arith, table-length words) in
+    let h : s .args .row < length words / 7 = omega (arith, table-length words) in
     let e = ap (λ (z : Task). z .c) (c .task-at .ensures ∙ sym (table-row words (s .args .row) h)) in
     let w = s .pre .0 .ranged (s .args .row) (s .pre .1) in
     record { table = s .pre .0; is-row = h; tick = s .pre .2; reached = omega arith; small = omega arith; is = omega arith }

@@ -41,15 +41,15 @@ found-never tasks i e = by (fits tasks i) refl e
 
 record Responding (words times : List ℕ) (i : ℕ) : Type 0 where
   table : WellFormed (tableOf words)
-  searched : Searched (misfits words) (length words / 6) i
+  searched : Searched (misfits words) (length words / 7) i
   long : length times ≡ 32
   laid : times ≡ filled (build (response (tableOf words)) i) (replicate 32 0)
 
 module _ {words times : List ℕ} {i : ℕ} (s : Responding words times i) where
-  few : length words / 6 ≤ 32
+  few : length words / 7 ≤ 32
   few = omega (arith, table-length words, s .table .rows-high)
 
-  next : i < length words / 6 → (t : ℕ) → fitOf (tableOf words) i ≡ At t → Responding words (set times i t) (i + 1)
+  next : i < length words / 7 → (t : ℕ) → fitOf (tableOf words) i ≡ At t → Responding words (set times i t) (i + 1)
   unfolding misfits build
   next h t e =
       let f = found-at (tableOf words) i t e in
@@ -64,25 +64,25 @@ module _ {words times : List ℕ} {i : ℕ} (s : Responding words times i) where
             ∙ ap (λ (z : ℕ). filled (build (response (tableOf words)) z) (replicate 32 0)) (sym (add-one i));
       }
 
-  misfit-is : (n : ℕ) → first (misfits words) (length words / 6) ≡ n → n ≡ misfit (tableOf words)
+  misfit-is : (n : ℕ) → first (misfits words) (length words / 7) ≡ n → n ≡ misfit (tableOf words)
   unfolding misfit misfits
   misfit-is n e = sym (ap (first (misfits words)) (table-length words) ∙ e)
 
-  stopped : i < length words / 6 → fitOf (tableOf words) i ≡ Never → i ≡ misfit (tableOf words)
+  stopped : i < length words / 7 → fitOf (tableOf words) i ≡ Never → i ≡ misfit (tableOf words)
   unfolding misfits
   stopped h e = misfit-is i (searched-hit (s .searched) h (ap not (found-never (tableOf words) i e)))
 
-  small : i < length words / 6 → (t : ℕ) → fitOf (tableOf words) i ≡ At t → t ≤ 65535
+  small : i < length words / 7 → (t : ℕ) → fitOf (tableOf words) i ≡ At t → t ≤ 65535
   unfolding fits
   small h t e =
       let f = found-at (tableOf words) i t e in
       let r = s .table .ranged i (omega (arith, table-length words)) in
       omega (arith, leb-true (response (tableOf words) i) _ (f .0), f .1)
 
-  ended : length words / 6 ≤ i → length words / 6 ≡ misfit (tableOf words)
+  ended : length words / 7 ≤ i → length words / 7 ≡ misfit (tableOf words)
   ended h = misfit-is _ (searched-end (s .searched) h)
 
-  all-laid : length words / 6 ≤ i → take (length (tableOf words)) times ≡ responses (tableOf words)
+  all-laid : length words / 7 ≤ i → take (length (tableOf words)) times ≡ responses (tableOf words)
   unfolding responses
   all-laid h =
       let e : i ≡ length (tableOf words) = omega (arith, s .searched .reached, table-length words) in
@@ -94,7 +94,7 @@ abbrev Inv-loop : tie.InvT-loop
 Inv-loop words rows times₀ i₀ times i = Responding words times i
 
 abbrev μ-loop : tie.MeasureT-loop
-μ-loop words rows times₀ i₀ times i = length words / 6 - i
+μ-loop words rows times₀ i₀ times i = length words / 7 - i
 
 loop-holds : tie.Need-loop-holds Inv-loop μ-loop
 unfolding build

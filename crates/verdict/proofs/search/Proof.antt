@@ -57,7 +57,7 @@ loop-holds : tie.Need-loop-holds Inv-loop μ-loop
 loop-holds c =
     let s = c .before .before in
     let words = s .args .words .now in
-    let h : s .args .row < length words / 6 = omega (arith, table-length words) in
+    let h : s .args .row < length words / 7 = omega (arith, table-length words) in
     record {
       table = s .pre .0;
       is-row = s .pre .1;

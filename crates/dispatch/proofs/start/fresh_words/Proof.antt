@@ -30,8 +30,8 @@ known : (c : tie.After-known-told) → Accepted (table c) (rows c ∷ [])
 known c = checked-accepted (table c) (rows c ∷ []) (good c)
 
 -- the part of the room that is lent
-part : (c : tie.Else1) → length (take 611 (start (c .before) .args .room .now)) ≡ 611
-part c = length-take-le 611 (start (c .before) .args .room .now) (c .if1 .left)
+part : (c : tie.Else1) → length (take 643 (start (c .before) .args .room .now)) ≡ 643
+part c = length-take-le 643 (start (c .before) .args .room .now) (c .if1 .left)
 
 check-requires : tie.Need-check-requires
 check-requires c κs = search needs
@@ -72,7 +72,7 @@ returns-3 c =
     let k = c .before .before .before .before .before in
     let room = start k .args .room .now in
     let e = fresh-laid (table k) room _ (good k) (c .before .before .before .before .if1 .left) in
-    (ap accepted (known k .rows) ∙ sym (e .0), ap (λ (z : List ℕ). z ++ drop 611 room) (c .before .before .lay-fresh .ensures) ∙ sym (e .1))
+    (ap accepted (known k .rows) ∙ sym (e .0), ap (λ (z : List ℕ). z ++ drop 643 room) (c .before .before .lay-fresh .ensures) ∙ sym (e .1))
 
 pub fresh-words-spec : {M : Type 1} → statement M
 fresh-words-spec =

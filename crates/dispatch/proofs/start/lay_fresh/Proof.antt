@@ -25,14 +25,14 @@ freshAt table i r = freshRow (row (tableOf table) i)
 
 record Laying (table words : List ℕ) (i : ℕ) : Type 0 where
   well : WellFormed (tableOf table)
-  mapped : Mapped (freshAt table) (blank (length table / 6)) words (length table / 6) i
+  mapped : Mapped (freshAt table) (blank (length table / 7)) words (length table / 7) i
 
-few : (table : List ℕ) → WellFormed (tableOf table) → length table / 6 ≤ 32
+few : (table : List ℕ) → WellFormed (tableOf table) → length table / 7 ≤ 32
 few table w = omega (arith, table-length table, w .rows-high)
 
-laying-start : (table words : List ℕ) → WellFormed (tableOf table) → words ≡ replicate 611 0 → Laying table (set words 0 (length table / 6)) 0
+laying-start : (table words : List ℕ) → WellFormed (tableOf table) → words ≡ replicate 643 0 → Laying table (set words 0 (length table / 7)) 0
 laying-start table words w e =
-    let n = length table / 6 in
+    let n = length table / 7 in
     let l : length (replicate n noRow) ≡ n = length-replicate n noRow in
     record {
       well = w;
@@ -48,10 +48,10 @@ laying-start table words w e =
     }
 
 -- all rows fresh: the fresh state
-all-fresh : (table : List ℕ) → mapFrom (freshAt table) 0 (replicate (length table / 6) noRow) ≡ map freshRow (tableOf table)
+all-fresh : (table : List ℕ) → mapFrom (freshAt table) 0 (replicate (length table / 7) noRow) ≡ map freshRow (tableOf table)
 unfolding freshAt
 all-fresh table =
-    let n = length table / 6 in
+    let n = length table / 7 in
     let tasks = tableOf table in
     let l : length (mapFrom (freshAt table) 0 (replicate n noRow)) ≡ n = mapFrom-length (freshAt table) 0 (replicate n noRow) ∙ length-replicate n noRow in
     ext-getD noRow (mapFrom (freshAt table) 0 (replicate n noRow)) (map freshRow tasks) (l ∙ sym (length-map tasks freshRow ∙ table-length table))
@@ -59,15 +59,15 @@ all-fresh table =
     ∙ ap (λ (z : ℕ). freshRow (row tasks z)) (zero-add i) ∙ sym (List·getD-map freshRow tasks i noTask))
 
 module _ {table words : List ℕ} {i : ℕ} (l : Laying table words i) where
-  in-table : i < length table / 6 → i < length (tableOf table)
+  in-table : i < length table / 7 → i < length (tableOf table)
   in-table h = omega (arith, table-length table)
 
-  laying-next : (again : List ℕ) (t : Task) (r : Row) → i < length table / 6 → t ≡ row (tableOf table) i → r ≡ freshRow t
+  laying-next : (again : List ℕ) (t : Task) (r : Row) → i < length table / 7 → t ≡ row (tableOf table) i → r ≡ freshRow t
       → again ≡ laid (withRow (stateOf words) i r) → Laying table again (i + 1)
   unfolding freshAt
   laying-next again t r h e f is = record { well = l .well; mapped = mapped-next (l .mapped) again r h (f ∙ ap freshRow e) is }
 
-  laying-end : length table / 6 ≤ i → words ≡ laid (fresh (tableOf table))
+  laying-end : length table / 7 ≤ i → words ≡ laid (fresh (tableOf table))
   unfolding fresh
   laying-end h = mapped-end (l .mapped) h ∙ ap (λ (z : List Row). laid (withRows (blank 0) z)) (all-fresh table)
 
@@ -75,7 +75,7 @@ abbrev Inv-loop : tie.InvT-loop
 Inv-loop table words₀ rows i₀ words i = Laying table words i
 
 abbrev μ-loop : tie.MeasureT-loop
-μ-loop table words₀ rows i₀ words i = length table / 6 - i
+μ-loop table words₀ rows i₀ words i = length table / 7 - i
 
 -- the task that was read
 read : (c : tie.After-task-at Inv-loop μ-loop) → taskSaid (c .task-at .result) ≡ row (tableOf (c .before .before .before .before .before .before .before .before .before .before .args .table .now)) (c .before .before .before .loop .i)

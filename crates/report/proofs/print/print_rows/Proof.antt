@@ -58,7 +58,7 @@ printed-is c =
     let s = begun (turn c .before) in
     let i = turn c .before .loop .i in
     let tasks : List Task = tableOf (s .args .words .now) in
-    let n = length (s .args .words .now) / 6 in
+    let n = length (s .args .words .now) / 7 in
     let id : c .before .task-at .result .id ≡ row tasks i .id =
     ap (λ (z : Task). z .id) (c .before .task-at .ensures ∙ sym (table-row (s .args .words .now) i (turn c .loop-test .taken))) in
     ap (λ (z : ℕ). numberLines printedKeys (i ∷ z ∷ getD (s .args .times .now) i 0 ∷ countsSaid (c .before .before .before .counts-of .result))) id

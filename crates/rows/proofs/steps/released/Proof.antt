@@ -2,7 +2,6 @@
 use mathlib.Core.Path.{ap, _∙_}
 use Prim.Native.Nat.{_+_}
 use Rattle.law.specs.Sums.{bit}
-use Rattle.law.specs.Table.{kindOf}
 use Rattle.law.specs.Tick.{release}
 use Rattle.law.proofs.Sound.{due-yes}
 use Rattle.table.specs.Said.{taskSaid}
@@ -22,12 +21,12 @@ kind-at-requires : tie.Need-kind-at-requires
 kind-at-requires c κs = search needs
 
 returns : tie.Need-returns
-unfolding release kindOf
+unfolding release
 returns c =
     let s = c .before .before .before .before .before in
     let r = s .args .r in
     let core = s .pre .0 .sound .core in
-    let kind = c .kind-at .ensures ∙ ap bit (kind-tells _ _ _ _ (core .ranged .pair) (core .place) (s .pre .2)) in
+    let kind = c .kind-at .ensures ∙ ap bit (kind-tells (taskSaid (r .task)) _ _ (core .place) (s .pre .2)) in
     rw (due-yes (rowSaid r .core) (s .pre .1))
     (λ i. record {
       core =

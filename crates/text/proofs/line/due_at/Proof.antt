@@ -54,6 +54,12 @@ slice-aggregate-line-at-6 c = search needs
 line-at-requires-6 : tie.Need-line-at-requires-6
 line-at-requires-6 c κs = search needs
 
+slice-aggregate-line-at-7 : tie.Need-slice-aggregate-line-at-7
+slice-aggregate-line-at-7 c = search needs
+
+line-at-requires-7 : tie.Need-line-at-requires-7
+line-at-requires-7 c κs = search needs
+
 returns : tie.Need-returns
 returns c = c .line-at .ensures ∙ due _ _ _ 0 (c .before .before .match .keys1)
 
@@ -70,13 +76,16 @@ returns-5 : tie.Need-returns-5
 returns-5 c = c .line-at5 .ensures ∙ due _ _ _ 4 (c .before .before .match .keys5)
 
 returns-6 : tie.Need-returns-6
-returns-6 c =
+returns-6 c = c .line-at6 .ensures ∙ due _ _ _ 5 (c .before .before .match .keys6)
+
+returns-7 : tie.Need-returns-7
+returns-7 c =
     let r = c .before .before .match .rest in
     let a = c .before .before .before .before .args in
-    let two = above (a .j) 1 (above (a .j) 0 (omega arith) (r .0 .0 .0 .0 .1)) (r .0 .0 .0 .1) in
-    let four = above (a .j) 3 (above (a .j) 2 two (r .0 .0 .1)) (r .0 .1) in
-    let five : a .j ≡ 5 = le-antisymm (omega arith) (above (a .j) 4 four (r .1)) in
-    c .line-at6 .ensures ∙ due (a .text .now) (a .at) (a .j) 5 five
+    let two = above (a .j) 1 (above (a .j) 0 (omega arith) (r .0 .0 .0 .0 .0 .1)) (r .0 .0 .0 .0 .1) in
+    let four = above (a .j) 3 (above (a .j) 2 two (r .0 .0 .0 .1)) (r .0 .0 .1) in
+    let six : a .j ≡ 6 = le-antisymm (omega arith) (above (a .j) 5 (above (a .j) 4 four (r .0 .1)) (r .1)) in
+    c .line-at7 .ensures ∙ due (a .text .now) (a .at) (a .j) 6 six
 
 pub due-at-spec : {M : Type 1} → statement M
 due-at-spec =
@@ -94,9 +103,12 @@ due-at-spec =
     line-at-requires-5
     slice-aggregate-line-at-6
     line-at-requires-6
+    slice-aggregate-line-at-7
+    line-at-requires-7
     returns
     returns-2
     returns-3
     returns-4
     returns-5
-    returns-6)
+    returns-6
+    returns-7)

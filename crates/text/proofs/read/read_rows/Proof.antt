@@ -23,11 +23,11 @@ start r = r .before .before .before .before
 
 -- the words that the lines gave
 abbrev words : tie.After-rows-to-end → List ℕ
-words r = take (start r .args .rows * 6) (r .rows-to-end .last .1 .1 .0)
+words r = take (start r .args .rows * 7) (r .rows-to-end .last .1 .1 .0)
 
-words-long : (r : tie.After-rows-to-end) → length (words r) ≡ start r .args .rows * 6
+words-long : (r : tie.After-rows-to-end) → length (words r) ≡ start r .args .rows * 7
 words-long r =
-    length-take-le (start r .args .rows * 6) (r .rows-to-end .last .1 .1 .0) (omega (arith, r .rows-to-end .ensures .1, start r .pre .2))
+    length-take-le (start r .args .rows * 7) (r .rows-to-end .last .1 .1 .0) (omega (arith, r .rows-to-end .ensures .1, start r .pre .2))
 
 abbrev lines : tie.After-enum-told → tie.After-rows-to-end
 lines c = c .before .before

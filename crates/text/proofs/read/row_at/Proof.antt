@@ -15,29 +15,29 @@ use Rattle.text.proofs.read.row_at.Statement.{statement}
 use Rattle.text.proofs.read.row_at.Tie as tie
 
 record Reading (text : List ℕ) (from : ℕ) (old : List ℕ) (row : ℕ) (words : List ℕ) (at j : ℕ) : Type 0 where
-  so : ReadSo text from rowKeys (take j (drop (row * 6) words)) (drop j rowKeys) at
-  kept : take (row * 6) words ≡ take (row * 6) old
-  long : length words ≡ 192
+  so : ReadSo text from rowKeys (take j (drop (row * 7) words)) (drop j rowKeys) at
+  kept : take (row * 7) words ≡ take (row * 7) old
+  long : length words ≡ 224
   in-table : row < 32
-  reached : j ≤ 6
+  reached : j ≤ 7
 
-module _ {text : List ℕ} {from : ℕ} {old : List ℕ} {row : ℕ} {words : List ℕ} {at j : ℕ} (r : Reading text from old row words at j) (h : j < 6) where
+module _ {text : List ℕ} {from : ℕ} {old : List ℕ} {row : ℕ} {words : List ℕ} {at j : ℕ} (r : Reading text from old row words at j) (h : j < 7) where
   -- the key that is due, and those behind it
-  due : ReadSo text from rowKeys (take j (drop (row * 6) words)) (getD rowKeys j [] ∷ drop (suc j) rowKeys) at
+  due : ReadSo text from rowKeys (take j (drop (row * 7) words)) (getD rowKeys j [] ∷ drop (suc j) rowKeys) at
   due = rw (drop-cons rowKeys j [] h) at (r .so)
 
   -- one word more
-  word-laid : (v : ℕ) → take (suc j) (drop (row * 6) (set words (row * 6 + j) v)) ≡ take j (drop (row * 6) words) ++ (v ∷ [])
+  word-laid : (v : ℕ) → take (suc j) (drop (row * 7) (set words (row * 7 + j) v)) ≡ take j (drop (row * 7) words) ++ (v ∷ [])
   word-laid v =
-      ap (take (suc j)) (drop-set-add (row * 6) words j v)
-      ∙ take-suc-set (drop (row * 6) words) j v (omega (arith, length-drop (row * 6) words, r .long, r .in-table))
+      ap (take (suc j)) (drop-set-add (row * 7) words j v)
+      ∙ take-suc-set (drop (row * 7) words) j v (omega (arith, length-drop (row * 7) words, r .long, r .in-table))
 
   next-line : {v next : ℕ} → lineAt text at (getD rowKeys j []) ≡ found (v ∷ []) next
-      → Reading text from old row (set words (row * 6 + j) v) next (j + 1)
+      → Reading text from old row (set words (row * 7 + j) v) next (j + 1)
   next-line {v} {next} e =
       record {
         so = rw (add-one, word-laid v) (so-next due e);
-        kept = take-set-le (row * 6) words (row * 6 + j) v (omega arith) ∙ r .kept;
+        kept = take-set-le (row * 7) words (row * 7 + j) v (omega arith) ∙ r .kept;
         long = simp length-set (r .long);
         in-table = r .in-table;
         reached = omega arith;
@@ -47,7 +47,7 @@ abbrev Inv-loop : tie.InvT-loop
 Inv-loop text from words₀ row at₀ j₀ words at j = Reading text from words₀ row words at j
 
 abbrev μ-loop : tie.MeasureT-loop
-μ-loop text from words₀ row at₀ j₀ words at j = 6 - j
+μ-loop text from words₀ row at₀ j₀ words at j = 7 - j
 
 abbrev Taken : Type 0
 Taken = tie.After-known-told Inv-loop μ-loop
@@ -115,7 +115,7 @@ loop-again c = next-line (turn c .before .loop .inv) (turn c .loop-test .taken) 
 returns-2 : tie.Need-returns-2 Inv-loop μ-loop
 returns-2 c =
     let l = c .before .loop in
-    let e : l .j ≡ 6 = omega (arith, l .inv .reached, c .loop-test .left) in
+    let e : l .j ≡ 7 = omega (arith, l .inv .reached, c .loop-test .left) in
     let all = so-all (rw e at (l .inv .so)) in
     (sym all, (l .inv .kept, l .inv .long))
 

@@ -16,21 +16,21 @@ use Rattle.text.proofs.read.rows_at.Statement.{statement}
 use Rattle.text.proofs.read.rows_at.Tie as tie
 
 record Reading (text : List ℕ) (from rows : ℕ) (words : List ℕ) (at i : ℕ) : Type 0 where
-  so : ReadSo text from (keysOf rowKeys rows) (take (i * 6) words) (keysOf rowKeys (rows - i)) at
-  long : length words ≡ 192
+  so : ReadSo text from (keysOf rowKeys rows) (take (i * 7) words) (keysOf rowKeys (rows - i)) at
+  long : length words ≡ 224
   few : rows ≤ 32
   reached : i ≤ rows
 
 module _ {text : List ℕ} {from rows : ℕ} {words : List ℕ} {at i : ℕ} (r : Reading text from rows words at i) (h : i < rows) where
   -- the keys of the row that is due, and those of the rows behind it
-  due : ReadSo text from (keysOf rowKeys rows) (take (i * 6) words) (rowKeys ++ keysOf rowKeys (rows - suc i)) at
+  due : ReadSo text from (keysOf rowKeys rows) (take (i * 7) words) (rowKeys ++ keysOf rowKeys (rows - suc i)) at
   due = rw (keys-more rowKeys rows i h) at (r .so)
 
-  next-row : (new : List ℕ) {next : ℕ} → take (i * 6) new ≡ take (i * 6) words → length new ≡ 192
-      → linesAt text at rowKeys ≡ found (take 6 (drop (i * 6) new)) next → Reading text from rows new next (i + 1)
+  next-row : (new : List ℕ) {next : ℕ} → take (i * 7) new ≡ take (i * 7) words → length new ≡ 224
+      → linesAt text at rowKeys ≡ found (take 7 (drop (i * 7) new)) next → Reading text from rows new next (i + 1)
   next-row new {next} kept long e =
-      let six : (i + 1) * 6 ≡ i * 6 + 6 = omega arith in
-      let front = ap (λ (n : ℕ). take n new) six ∙ take-add (i * 6) 6 new ∙ ap (λ (l : List ℕ). l ++ take 6 (drop (i * 6) new)) kept in
+      let seven : (i + 1) * 7 ≡ i * 7 + 7 = omega arith in
+      let front = ap (λ (n : ℕ). take n new) seven ∙ take-add (i * 7) 7 new ∙ ap (λ (l : List ℕ). l ++ take 7 (drop (i * 7) new)) kept in
       record {
         so = rw (front, add-one) (so-more rowKeys (keysOf rowKeys (rows - suc i)) due e);
         long = long;
@@ -70,9 +70,9 @@ returns c =
     let t = r .before .before in
     let l = t .before .loop in
     let rows = t .before .before .before .args .rows in
-    let broken = sym (r .row-at .ensures .0) ∙ ends (take 6 (drop (l .i * 6) (r .row-at .last .1 .1 .0))) (c .enum-told .given .1) in
+    let broken = sym (r .row-at .ensures .0) ∙ ends (take 7 (drop (l .i * 7) (r .row-at .last .1 .1 .0))) (c .enum-told .given .1) in
     let e = so-broken rowKeys (keysOf rowKeys (rows - suc (l .i))) (due (l .inv) (t .loop-test .taken)) broken in
-    (ends (take (rows * 6) (r .row-at .last .1 .1 .0)) (c .enum-told .given .1) ∙ sym e, r .row-at .ensures .1 .1)
+    (ends (take (rows * 7) (r .row-at .last .1 .1 .0)) (c .enum-told .given .1) ∙ sym e, r .row-at .ensures .1 .1)
 
 add-i : tie.Need-add-i Inv-loop μ-loop
 add-i c = omega arith
@@ -85,7 +85,7 @@ loop-again c =
     let r = c .before .before .before in
     let t = r .before .before in
     let new = r .row-at .last .1 .1 .0 in
-    let read = sym (r .row-at .ensures .0) ∙ ends (take 6 (drop (t .before .loop .i * 6) new)) (c .before .rest .given .1) in
+    let read = sym (r .row-at .ensures .0) ∙ ends (take 7 (drop (t .before .loop .i * 7) new)) (c .before .rest .given .1) in
     next-row (t .before .loop .inv) (t .loop-test .taken) new (r .row-at .ensures .1 .0) (r .row-at .ensures .1 .1) read
 
 returns-2 : tie.Need-returns-2 Inv-loop μ-loop

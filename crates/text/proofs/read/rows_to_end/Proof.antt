@@ -11,7 +11,7 @@ use Rattle.text.proofs.read.rows_to_end.Statement.{statement}
 use Rattle.text.proofs.read.rows_to_end.Tie as tie
 
 abbrev words : tie.After-rows-at → List ℕ
-words r = take (r .before .before .before .args .rows * 6) (r .rows-at .last .1 .1 .0)
+words r = take (r .before .before .before .args .rows * 7) (r .rows-at .last .1 .1 .0)
 
 rows-at-requires : tie.Need-rows-at-requires
 rows-at-requires c κs = search needs

@@ -73,7 +73,7 @@ DueAt 𝓤 H A at-mem run = tripleOf 𝓤 H A due-at.signature (due-at.spec 𝓤
 
 -- what is asked of a reader and a line's number, and what is said of the value
 abbrev Asked : Reader → ℕ → Type 0
-Asked d j = (d .at ≤ length (now (d .text))) × (j < 6)
+Asked d j = (d .at ≤ length (now (d .text))) × (j < 7)
 
 abbrev Told : Reader → ℕ → Value → Type 0
 Told d j v = said v ≡ lineAt (now (d .text)) (d .at) (getD rowKeys j [])

@@ -76,7 +76,7 @@ module _ {M : Type 1} (𝓤 : URA M) (H : Heap 𝓤) (A : Atoms 𝓤) (at-mem : 
 
 -- what is asked of a text, a place and a line's number, and what is said of the value
 abbrev Asked : List ℕ → ℕ → ℕ → Type 0
-Asked text place j = (place ≤ length text) × (j < 6)
+Asked text place j = (place ≤ length text) × (j < 7)
 
 abbrev Told : List ℕ → ℕ → ℕ → Value → Type 0
 Told text place j v = said v ≡ lineAt text place (getD rowKeys j [])

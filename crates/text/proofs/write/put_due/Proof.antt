@@ -27,14 +27,14 @@ put : (s : tie.Start) (r : ℕ) (last : List ℕ) (k : ℕ) → s .args .j ≡ k
 put s r last k e h = subst (Put s r last) (sym e) h
 
 -- the last arm
-last-key : (c : tie.At-match-rest) → c .before .before .args .j ≡ 5
+last-key : (c : tie.At-match-rest) → c .before .before .args .j ≡ 6
 last-key c =
     let r = c .match .rest in
     let j = c .before .before .args .j in
-    by j (c .before .before .pre .0) (r .0 .0 .0 .0 .1) (r .0 .0 .0 .1) (r .0 .0 .1) (r .0 .1) (r .1)
+    by j (c .before .before .pre .0) (r .0 .0 .0 .0 .0 .1) (r .0 .0 .0 .0 .1) (r .0 .0 .0 .1) (r .0 .0 .1) (r .0 .1) (r .1)
   where
-    by : (j : ℕ) → j < 6 → (j ≡ 0 → ⊥) → (j ≡ 1 → ⊥) → (j ≡ 2 → ⊥) → (j ≡ 3 → ⊥) → (j ≡ 4 → ⊥) → j ≡ 5
-    by j h a b c d e = omega arith
+    by : (j : ℕ) → j < 7 → (j ≡ 0 → ⊥) → (j ≡ 1 → ⊥) → (j ≡ 2 → ⊥) → (j ≡ 3 → ⊥) → (j ≡ 4 → ⊥) → (j ≡ 5 → ⊥) → j ≡ 6
+    by j h a b c d e f = omega arith
 
 slice-aggregate-put-line : tie.Need-slice-aggregate-put-line
 slice-aggregate-put-line c = search needs
@@ -70,7 +70,13 @@ slice-aggregate-put-line-6 : tie.Need-slice-aggregate-put-line-6
 slice-aggregate-put-line-6 c = search needs
 
 put-line-requires-6 : tie.Need-put-line-requires-6
-put-line-requires-6 c κs = asked (c .before .before .before .before) 5 (last-key (c .before .before))
+put-line-requires-6 c κs = asked (c .before .before .before .before) 5 (c .before .before .match .keys6)
+
+slice-aggregate-put-line-7 : tie.Need-slice-aggregate-put-line-7
+slice-aggregate-put-line-7 c = search needs
+
+put-line-requires-7 : tie.Need-put-line-requires-7
+put-line-requires-7 c κs = asked (c .before .before .before .before) 6 (last-key (c .before .before))
 
 same-length : tie.Need-same-length
 same-length c = search needs
@@ -124,7 +130,16 @@ returns-6 : tie.Need-returns-6
 returns-6 c =
     let p = c .before .before .put-line6 in
     let m = c .before .before .before .before .before in
-    put (m .before .before) (p .result) (p .last .0) 5 (last-key m) (p .ensures .0, p .ensures .1)
+    put (m .before .before) (p .result) (p .last .0) 5 (m .match .keys6) (p .ensures .0, p .ensures .1)
+
+same-length-7 : tie.Need-same-length-7
+same-length-7 c = search needs
+
+returns-7 : tie.Need-returns-7
+returns-7 c =
+    let p = c .before .before .put-line7 in
+    let m = c .before .before .before .before .before in
+    put (m .before .before) (p .result) (p .last .0) 6 (last-key m) (p .ensures .0, p .ensures .1)
 
 pub put-due-spec : {M : Type 1} → statement M
 put-due-spec =
@@ -142,6 +157,8 @@ put-due-spec =
     put-line-requires-5
     slice-aggregate-put-line-6
     put-line-requires-6
+    slice-aggregate-put-line-7
+    put-line-requires-7
     same-length
     returns
     same-length-2
@@ -153,4 +170,6 @@ put-due-spec =
     same-length-5
     returns-5
     same-length-6
-    returns-6)
+    returns-6
+    same-length-7
+    returns-7)

@@ -42,7 +42,7 @@ table c = checked-accepted (words c) (rows c ∷ []) (good c)
 rows-is : (c : tie.After-known-told) → rows c ≡ length (tableOf (words c))
 rows-is c = cc (table c .rows)
 
-whole : (c : tie.After-known-told) → length (words c) ≡ rows c * 6
+whole : (c : tie.After-known-told) → length (words c) ≡ rows c * 7
 whole c = omega (arith, rows-is c, table-length (words c), table c .whole)
 
 -- the text that was made
