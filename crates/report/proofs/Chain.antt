@@ -17,8 +17,8 @@ use Rattle.refusal.specs.declared.Refusal.{Refusal}
 use Rattle.refusal.specs.declared.Refusal.the-variants.{NotWholeRows, NoRows, ManyRows, Id, T, D, C, K, M, Repeated, Unschedulable, Text, Room, State, Clock, P}
 use Rattle.refusal.specs.Shown.{numberOf}
 use Rattle.report.specs.Said.{Small}
-use Rattle.text.specs.Written.{putAt, lineOf}
-use Rattle.text.proofs.Pieces.{put-none, put-length, put-then, line-length}
+use Rattle.line.specs.Put.{putAt, lineOf}
+use Rattle.line.proofs.Pieces.{put-none, put-length, put-then, line-length}
 
 -- the lines of these keys and values stand at `at`, in no more than `most` bytes
 pub record Lined (old : List ℕ) (at most : ℕ) (keys : List (List ℕ)) (values : List ℕ) (out : List ℕ) (next : ℕ) : Type 0 where

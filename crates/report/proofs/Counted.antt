@@ -15,8 +15,8 @@ use Rattle.law.specs.Report.{rowPrinted, rowsPrinted}
 use Rattle.law.proofs.Report.{row-most}
 use Rattle.law.proofs.Spare.{spare-high}
 use Rattle.law.proofs.Tests.{both-true}
-use Rattle.text.specs.Written.{putAt}
-use Rattle.text.proofs.Pieces.{put-none, put-length, put-then}
+use Rattle.line.specs.Put.{putAt}
+use Rattle.line.proofs.Pieces.{put-none, put-length, put-then}
 use Rattle.report.specs.Said.{Small}
 
 pub small-cons : (v : ℕ) (values : List ℕ) → v ≤ 4294967295 → Small values → Small (v ∷ values)

@@ -16,8 +16,8 @@ use Rattle.rows.specs.Said.{Held}
 use Rattle.rows.proofs.Words.{says}
 use Rattle.tick.proofs.Chain.{held-as, idle-word}
 use Rattle.dispatch.proofs.Begun.{begun-run}
-use Rattle.text.specs.Written.{putAt}
-use Rattle.text.proofs.Pieces.{put-then, put-length}
+use Rattle.line.specs.Put.{putAt}
+use Rattle.line.proofs.Pieces.{put-then, put-length}
 use Rattle.report.specs.Said.{Good}
 use Rattle.report.proofs.Chain.{Lined}
 

@@ -2,7 +2,7 @@
 ghost use mathlib.Core.Path.{_≡_};
 ghost use lib.ListN.{length};
 ghost use Rattle.law.specs.Report.{printed, reportAnswer, reportRoom};
-ghost use Rattle.text.specs.Written.{putAt};
+ghost use Rattle.line.specs.Put.{putAt};
 ghost use Rattle.report.specs.Shown.{shown};
 
 pub mod print;
@@ -11,10 +11,10 @@ use print::print_refusal;
 use print::print_run;
 use refusal::Refusal;
 use table::WIDTH;
-use text::line::Value;
-use text::line::line_at;
-use text::line::place;
-use text::put::put_bytes;
+use line::read::Value;
+use line::read::line_at;
+use line::read::place;
+use line::put::put_bytes;
 use text::read::Reading;
 use text::read::read;
 

@@ -10,7 +10,7 @@ ghost use Rattle.law.specs.Report.{refusalPrinted, placed, printedKeys, numberL
 ghost use Rattle.refusal.specs.Shown.{numberOf, alsoOf};
 ghost use Rattle.rows.specs.Said.{Held};
 ghost use Rattle.dispatch.specs.Shown.{countsSaid};
-ghost use Rattle.text.specs.Written.{putAt};
+ghost use Rattle.line.specs.Put.{putAt};
 ghost use Rattle.report.specs.Said.{Small, Good, Responded};
 use dispatch::counts::Counts;
 use dispatch::counts::counts_of;
@@ -22,8 +22,8 @@ use refusal::has_also;
 use refusal::number;
 use table::WIDTH;
 use table::task_at;
-use text::put::put_bytes;
-use text::put::put_line;
+use line::put::put_bytes;
+use line::put::put_line;
 use verdict::Verdict;
 use verdict::judge;
 

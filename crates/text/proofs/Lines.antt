@@ -8,8 +8,8 @@ use lib.ListN.{length, getD, length-append}
 use Rattle.law.specs.Text.{rowsKey, rowKeys}
 use Rattle.law.specs.Reading.{textOf}
 use Rattle.law.proofs.TextWrite.{rowLines, rows-none, rows-next, rows-most, text-rows}
-use Rattle.text.specs.Written.{putAt, lineOf}
-use Rattle.text.proofs.Pieces.{put-none, put-length, put-then}
+use Rattle.line.specs.Put.{putAt, lineOf}
+use Rattle.line.proofs.Pieces.{put-none, put-length, put-then}
 
 -- The lines of the first l words stand behind `start`; the next goes to `at`.
 pub record Behind (words : List ℕ) (n : ℕ) (old : List ℕ) (start : ℕ) (out : List ℕ) (at l : ℕ) : Type 0 where

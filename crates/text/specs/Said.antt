@@ -4,22 +4,10 @@ use Prim.Native.Nat.{ℕ}
 use Rattle.law.specs.Refusal.{Answer, accepted}
 use Rattle.law.specs.Reading.{Found, found, fault}
 use Rattle.refusal.specs.Shown.{shown as refusalShown}
-use Rattle.text.specs.declared.line.Value.{Value}
-use Rattle.text.specs.declared.line.Value.the-variants.{Is, Fault}
 use Rattle.text.specs.declared.read.Rest.{Rest}
 use Rattle.text.specs.declared.read.Rest.the-variants.{Next, Broken}
 use Rattle.text.specs.declared.read.Reading.{Reading}
 use Rattle.text.specs.declared.read.Reading.the-variants.{Rows, Refused}
-
--- a line: its value and the place after it, or the place of a fault
-abbrev pub said : Value → Found
-said (Is v next) = found (v ∷ []) next
-said (Fault j) = fault j
-
--- the place that a line's answer names
-abbrev pub placeOf : Value → ℕ
-placeOf (Is v next) = next
-placeOf (Fault j) = j
 
 -- a run of lines with these values: the place after them, or the place of a fault
 abbrev pub told : Rest → List ℕ → Found

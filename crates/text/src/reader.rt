@@ -5,9 +5,9 @@ ghost use Prim.Native.Nat.{_≤_, _<_};
 ghost use lib.ListN.{length, getD};
 ghost use Rattle.law.specs.Text.{rowKeys};
 ghost use Rattle.law.specs.Reading.{lineAt};
-ghost use Rattle.text.specs.Said.{said};
-use crate::line::Value;
-use crate::line::due_at;
+ghost use Rattle.line.specs.Said.{said};
+use line::read::Value;
+use line::read::due_at;
 
 // The lent text and the place to read from.
 pub(crate) struct Reader<'a> {

@@ -5,9 +5,11 @@ ghost use Prim.Native.Nat.{_+_, _*_, _≤_, _<_};
 ghost use lib.ListN.{length, getD};
 ghost use Rattle.law.specs.Text.{rowKeys};
 ghost use Rattle.law.specs.Reading.{textOf, writeAnswer, writeRoom};
-ghost use Rattle.text.specs.Written.{putAt, lineOf, shown};
-use crate::put::put_bytes;
-use crate::put::put_line;
+ghost use Rattle.line.specs.Put.{putAt};
+ghost use Rattle.text.specs.Written.{shown};
+use line::put::put_bytes;
+use line::put::put_due;
+use line::put::put_line;
 use refusal::Refusal;
 use table::Checked;
 use table::WIDTH;
@@ -17,23 +19,6 @@ use table::check;
 pub enum Written {
     Length(usize),
     Refused(Refusal),
-}
-
-// The line that is due by its number within its row; answers the place after it.
-fn put_due(out: &mut [u8], at: usize, j: usize, v: u64) -> usize
-    requires { ⌜ (j < 7) × (v ≤ 4294967295) × (at + length (lineOf (getD rowKeys j []) v) ≤ length (now out)) ⌝ }
-    ensures place { λ r. ⌜ r ≡ at + length (lineOf (getD rowKeys j []) v) ⌝ }
-    ensures bytes { λ r. ⌜ now (out .exit) ≡ putAt (now (out .entry)) at (lineOf (getD rowKeys j []) v) ⌝ }
-{
-    match j {
-        0 => put_line(out, at, b"id=", v),
-        1 => put_line(out, at, b"c=", v),
-        2 => put_line(out, at, b"t=", v),
-        3 => put_line(out, at, b"d=", v),
-        4 => put_line(out, at, b"m=", v),
-        5 => put_line(out, at, b"k=", v),
-        _ => put_line(out, at, b"p=", v),
-    }
 }
 
 // The whole text, from the start of a run that has room for it; answers its length.

@@ -17,8 +17,9 @@ use Rattle.law.proofs.TextAnswers.{read-filled}
 use Rattle.law.proofs.TextTrips.{Trip, read-write}
 use Rattle.law.proofs.Report.{printed-unread, printed-refused, printed-run, refused-small}
 use Rattle.refusal.specs.Shown.{numberOf, alsoOf}
-use Rattle.text.specs.Said.{said, placeOf, shown}
-use Rattle.text.specs.Written.{putAt}
+use Rattle.line.specs.Said.{said, placeOf}
+use Rattle.text.specs.Said.{shown}
+use Rattle.line.specs.Put.{putAt}
 use Rattle.report.specs.Said.{Good}
 use Rattle.report.proofs.print_all.Statement.{statement}
 use Rattle.report.proofs.print_all.Tie as tie

@@ -8,7 +8,7 @@ use borrow.Author.Needs.{needs}
 use Rattle.law.specs.Refusal.{accepted}
 use Rattle.law.specs.Report.{printed}
 use Rattle.law.proofs.Report.{printed-most, report-short, report-accepted}
-use Rattle.text.proofs.Pieces.{put-front, front-taken}
+use Rattle.line.proofs.Pieces.{put-front, front-taken}
 use Rattle.report.proofs.report.Statement.{statement}
 use Rattle.report.proofs.report.Tie as tie
 

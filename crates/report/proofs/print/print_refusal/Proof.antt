@@ -10,7 +10,7 @@ use Rattle.law.specs.Refusal.{head}
 use Rattle.law.proofs.Tests.{never-both}
 use Rattle.law.specs.Report.{refusedKey, atKey, numberLines, refusalPrinted, placed}
 use Rattle.refusal.specs.Shown.{numberOf, alsoOf, isSome}
-use Rattle.text.specs.Written.{putAt}
+use Rattle.line.specs.Put.{putAt}
 use Rattle.report.proofs.Chain.{Lined, lined-none, lined-fits, lined-next, number-small}
 use Rattle.report.proofs.Placed.{place-most, place-some}
 use Rattle.report.proofs.print.print_refusal.Statement.{statement}

@@ -10,7 +10,7 @@ use Rattle.law.specs.Report.{printedKeys, numberLines, rowPrinted, responsePrin
 use Rattle.law.proofs.Table.{table-length, table-row}
 use Rattle.law.proofs.Ticks.{tasks-length}
 use Rattle.dispatch.specs.Shown.{countsSaid}
-use Rattle.text.specs.Written.{putAt}
+use Rattle.line.specs.Put.{putAt}
 use Rattle.report.specs.Said.{Small}
 use Rattle.report.proofs.Judged.{good-few, good-ranged}
 use Rattle.report.proofs.Counted.{Printing, printing-start, printing-long, printing-next, small-cons, counts-small}

@@ -9,8 +9,8 @@ use Rattle.law.specs.Table.{tableOf}
 use Rattle.law.specs.Tick.{State, clockEnd, run, fresh}
 use Rattle.law.specs.Report.{ticksKey, idleKey, verdictPrinted, rowsPrinted, runPrinted}
 use Rattle.law.proofs.Report.{verdict-most}
-use Rattle.text.specs.Written.{putAt}
-use Rattle.text.proofs.Pieces.{put-length}
+use Rattle.line.specs.Put.{putAt}
+use Rattle.line.proofs.Pieces.{put-length}
 use Rattle.report.proofs.Chain.{Lined, lined-none, lined-long, lined-fits, lined-next}
 use Rattle.report.proofs.Whole.{after-is, after-held, after-tasks, after-idle, idle-small, whole-printed}
 use Rattle.report.proofs.print.print_run.Statement.{statement}

@@ -13,8 +13,8 @@ use Rattle.law.specs.Report.{unschedulableLine, atKey, numberLines, verdictPrin
 use Rattle.law.proofs.Verdict.{misfit-most}
 use Rattle.refusal.specs.declared.Refusal.{Refusal}
 use Rattle.refusal.specs.Shown.{numberOf, alsoOf}
-use Rattle.text.specs.Written.{putAt, lineOf}
-use Rattle.text.proofs.Pieces.{put-then, put-length}
+use Rattle.line.specs.Put.{putAt, lineOf}
+use Rattle.line.proofs.Pieces.{put-then, put-length}
 use Rattle.verdict.specs.Said.{shown}
 use Rattle.report.specs.Said.{Responded}
 use Rattle.report.proofs.Chain.{line-most, number-some}

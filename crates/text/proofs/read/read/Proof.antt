@@ -9,7 +9,7 @@ use Rattle.law.specs.Refusal.{refused}
 use Rattle.law.specs.Text.{rowsKey}
 use Rattle.law.specs.Reading.{found, lineAt}
 use Rattle.law.proofs.TextAnswers.{read-twelve-first, read-two, read-three, read-kept}
-use Rattle.text.specs.Said.{said, placeOf}
+use Rattle.line.specs.Said.{said, placeOf}
 use Rattle.text.proofs.read.read.Statement.{statement}
 use Rattle.text.proofs.read.read.Tie as tie
 

@@ -10,7 +10,7 @@ use borrow.Author.Needs.{needs}
 use Rattle.law.specs.Text.{rowKeys}
 use Rattle.law.specs.Reading.{found, fault, lineAt}
 use Rattle.law.proofs.TextSteps.{ReadSo, so-start, so-next, so-fault, so-all, line-small}
-use Rattle.text.specs.Said.{said, placeOf}
+use Rattle.line.specs.Said.{said, placeOf}
 use Rattle.text.proofs.read.row_at.Statement.{statement}
 use Rattle.text.proofs.read.row_at.Tie as tie
 

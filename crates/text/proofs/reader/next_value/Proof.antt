@@ -44,17 +44,17 @@ use denote.Triple.Walked.{says, needs, Stays, stay-none, walkOf, goes-none, Walk
 use denote.Exit.{yes}
 use Rattle.law.specs.Text.{rowKeys}
 use Rattle.law.specs.Reading.{lineAt}
-use Rattle.text.specs.Said.{said}
+use Rattle.line.specs.Said.{said}
 use Rattle.text.specs.declared.reader.Reader.{Reader}
-use Rattle.text.specs.declared.line.Value.{Value}
+use Rattle.line.specs.declared.read.Value.{Value}
 use Rattle.text.proofs.reader.Reader as T
 use Rattle.text.proofs.reader.Reader.Laws as T′
-use Rattle.text.proofs.line.Value as S
-use Rattle.text.proofs.line.Value.Laws as S′
-use Rattle.text.proofs.line.due_at as due-at
-use Rattle.text.proofs.line.due_at.Symbol as due-at-def
-use Rattle.text.proofs.line.due_at.Symbol.{name as #text·due-at}
-use Rattle.text.proofs.line.due_at.Met as due-at-thm
+use Rattle.line.proofs.read.Value as S
+use Rattle.line.proofs.read.Value.Laws as S′
+use Rattle.line.proofs.read.due_at as due-at
+use Rattle.line.proofs.read.due_at.Symbol as due-at-def
+use Rattle.line.proofs.read.due_at.Symbol.{name as #text·due-at}
+use Rattle.line.proofs.read.due_at.Met as due-at-thm
 use Rattle.text.proofs.reader.next_value.Key.{name as #text·next-value}
 use Rattle.text.proofs.reader.next_value as next-value
 use Rattle.text.proofs.reader.next_value.Statement as stated
@@ -176,4 +176,4 @@ next-value-spec 𝓤 H 𝓜 𝓖 𝓡 =
     entered 𝓤 H (tripleOf 𝓤 H (𝓖 .A) next-value.signature (next-value.spec 𝓤 H (𝓖 .A) (𝓜 .mem) (𝓡 .run)))
     (tables 𝓤 H 𝓜 𝓡 code.env .C) (tables 𝓤 H 𝓜 𝓡 code.env .Λ) #text·next-value code.function (code.unfolded 𝓤 H 𝓜 𝓡)
     (next-value-meets 𝓤 H (𝓖 .A) (givenOf 𝓤 H 𝓜 𝓖) (𝓜 .mem) (𝓡 .run) (tablesOf 𝓤 H 𝓜 (tables 𝓤 H 𝓜 𝓡 code.env))
-    (cited 𝓤 H (DueAt 𝓤 H (𝓖 .A) (𝓜 .mem) (𝓡 .run)) 𝓜 𝓡 code.env #text·due-at due-at-def.routine code.calls-text·line·due-at (due-at-thm.met 𝓤 H 𝓜 𝓖 𝓡)))
+    (cited 𝓤 H (DueAt 𝓤 H (𝓖 .A) (𝓜 .mem) (𝓡 .run)) 𝓜 𝓡 code.env #text·due-at due-at-def.routine code.calls-line·read·due-at (due-at-thm.met 𝓤 H 𝓜 𝓖 𝓡)))

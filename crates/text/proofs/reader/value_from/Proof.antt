@@ -39,13 +39,13 @@ use denote.Triple.Walked.{says, needs, Stays, stay-none, stay-none-slice, walkOf
 use denote.Exit.{yes}
 use Rattle.law.specs.Text.{rowKeys}
 use Rattle.law.specs.Reading.{lineAt}
-use Rattle.text.specs.Said.{said}
+use Rattle.line.specs.Said.{said}
 use Rattle.text.specs.declared.reader.Reader.{Reader}
-use Rattle.text.specs.declared.line.Value.{Value}
+use Rattle.line.specs.declared.read.Value.{Value}
 use Rattle.text.proofs.reader.Reader as T
 use Rattle.text.proofs.reader.Reader.Laws as T′
-use Rattle.text.proofs.line.Value as S
-use Rattle.text.proofs.line.Value.Laws as S′
+use Rattle.line.proofs.read.Value as S
+use Rattle.line.proofs.read.Value.Laws as S′
 use Rattle.text.proofs.reader.reader_at as reader-at
 use Rattle.text.proofs.reader.reader_at.Symbol as reader-at-def
 use Rattle.text.proofs.reader.reader_at.Symbol.{name as #text·reader-at}

@@ -13,7 +13,7 @@ use Rattle.law.proofs.Table.{Accepted, checked-accepted, table-length}
 use Rattle.law.proofs.TextAnswers.{write-refused, write-short, write-accepted, write-filled, write-kept}
 use Rattle.law.proofs.TextLongest.{text-longest}
 use Rattle.table.specs.Said.{shown}
-use Rattle.text.proofs.Pieces.{put-front, front-taken}
+use Rattle.line.proofs.Pieces.{put-front, front-taken}
 use Rattle.text.proofs.write.write.Statement.{statement}
 use Rattle.text.proofs.write.write.Tie as tie
 
