@@ -76,10 +76,14 @@ pub fn row_fault(r: Task, twice: bool) -> u64
     if !is_within(1, r.k, r.m) {
         return 9;
     }
-    if 1 < r.p {
+    let other = 1 < r.p;
+    if other {
         return 16;
     }
-    if twice { 10 } else { 0 }
+    if twice {
+        return 10;
+    }
+    0
 }
 
 // The refusal of a row, by its number.
