@@ -70,11 +70,11 @@ unfolding faultOf
 returns-6 c = simp (id-good (c .before .before .before .before .before .before .before .before .before .before), t-good (c .before .before .before .before .before .before .before .before), d-good (c .before .before .before .before .before .before), c-good (c .before .before .before .before), k-good (c .before .before), sym (c .before .is-within6 .ensures) ∙ not-true _ (c .if6 .taken))
 
 p-good : (c : tie.Else7) → leb (c .before .before .before .before .before .before .before .before .before .before .before .before .before .before .args .r .p) 1 ≡ true
-p-good c = le-leb _ 1 (ltb-false 1 _ (c .if7 .left))
+p-good c = le-leb (c .before .before .before .before .before .before .before .before .before .before .before .before .before .before .args .r .p) 1 (ltb-false 1 (c .before .before .before .before .before .before .before .before .before .before .before .before .before .before .args .r .p) (c .if7 .left))
 
 returns-7 : tie.Need-returns-7
 unfolding faultOf
-returns-7 c = simp (id-good (c .before .before .before .before .before .before .before .before .before .before .before .before), t-good (c .before .before .before .before .before .before .before .before .before .before), d-good (c .before .before .before .before .before .before .before .before), c-good (c .before .before .before .before .before .before), k-good (c .before .before .before .before), m-good (c .before .before), lt-leb _ 1 (ltb-true 1 _ (c .if7 .taken)))
+returns-7 c = simp (id-good (c .before .before .before .before .before .before .before .before .before .before .before .before), t-good (c .before .before .before .before .before .before .before .before .before .before), d-good (c .before .before .before .before .before .before .before .before), c-good (c .before .before .before .before .before .before), k-good (c .before .before .before .before), m-good (c .before .before), lt-leb (c .before .before .before .before .before .before .before .before .before .before .before .before .before .before .args .r .p) 1 (ltb-true 1 (c .before .before .before .before .before .before .before .before .before .before .before .before .before .before .args .r .p) (c .if7 .taken)))
 
 returns-8 : tie.Need-returns-8
 unfolding faultOf
