@@ -1,6 +1,6 @@
 /*
  * A music stand in small: read the task text, ask for the verdict, run a second of ticks as a timer interrupt would, look at the
- * counts; save the state on the way and go on from the saved words; meet two refusals.
+ * counts and at the pattern of a deeply-red row; save the state on the way and go on from the saved words; meet three refusals.
  *
  *     include/run
  */
@@ -13,17 +13,19 @@
 
 enum { SECOND = 1000, SAVED_AT = 650 };
 
-/* Words of a state that was saved when a row had no GP_HELD. */
+/* Words of a state that was saved when a row had no GP_P. */
 enum { EARLIER_WORDS = GP_STATE_WORDS - GP_ROWS_MAX };
 
-/* A tick is a millisecond. From the highest row down: pedal scan, tuner, screen, radio slot. */
+/* A tick is a millisecond. From the highest row down: pedal scan, tuner, screen, radio slot. The radio slot is deeply-red: of every
+   four jobs the first two are mandatory, so they come together. */
 static const char stand_text[] =
     "rows=4\n"
-    "id=1\nc=1\nt=5\nd=2\nm=1\nk=1\n"
-    "id=2\nc=6\nt=20\nd=20\nm=2\nk=3\n"
-    "id=3\nc=14\nt=40\nd=40\nm=3\nk=5\n"
-    "id=4\nc=20\nt=100\nd=100\nm=1\nk=2\n";
+    "id=1\nc=1\nt=5\nd=2\nm=1\nk=1\np=0\n"
+    "id=2\nc=6\nt=20\nd=20\nm=2\nk=3\np=0\n"
+    "id=3\nc=14\nt=40\nd=40\nm=3\nk=5\np=0\n"
+    "id=4\nc=20\nt=100\nd=100\nm=2\nk=4\np=1\n";
 
+enum { SCREEN = 2, RADIO = 3 };
 static const char *const names[] = {"pedal scan", "tuner", "screen", "radio slot"};
 
 /* Firmware would keep these in place too: nothing here is allocated. */
@@ -32,6 +34,10 @@ static uint32_t responses[GP_ROWS_MAX];
 static uint64_t state[GP_STATE_WORDS];
 static uint64_t saved[GP_STATE_WORDS];
 static uint8_t written[GP_TEXT_BYTES];
+
+/* The jobs that the radio slot released, and of each in its bit whether it was mandatory. */
+static uint32_t radio_jobs;
+static uint64_t radio_kinds;
 
 /* The value of an answer that this program has no use without. */
 static uint64_t wanted(const char *what, struct gp_answer answer)
@@ -62,12 +68,22 @@ static void judge(size_t rows)
         printf("  %s: id=%" PRIu32 " r=%" PRIu32 "\n", names[row], table[row * GP_TASK_WORDS + GP_ID], responses[row]);
 }
 
+/* Notes the kind of a job that the radio slot has just released. Its work outlasts the tick of its release, so it is live here. */
+static void note_radio_job(void)
+{
+    if (state[GP_WORD_AT(RADIO, GP_RELEASED)] > radio_jobs) {
+        radio_kinds |= state[GP_WORD_AT(RADIO, GP_KIND)] << radio_jobs;
+        radio_jobs++;
+    }
+}
+
 /* One call a tick, as from a timer. A firmware that wants many ticks at once calls gp_run. */
 static void run_second(size_t rows)
 {
     wanted("fresh", gp_fresh(table, rows * GP_TASK_WORDS, state, GP_STATE_WORDS));
     while (state[GP_TIME] < SECOND) {
         wanted("tick", gp_tick(state, GP_STATE_WORDS));
+        note_radio_job();
         if (state[GP_TIME] == SAVED_AT)
             memcpy(saved, state, sizeof saved);
     }
@@ -84,6 +100,21 @@ static void show_counts(size_t rows)
         printf(" broken=%" PRIu64 " spare=%" PRIu64, count[GP_COUNT_BROKEN], count[GP_COUNT_SPARE]);
         printf(" held=%" PRIu64 "\n", wanted("held", gp_held(state, GP_STATE_WORDS, row)));
     }
+}
+
+/* The radio slot's mandatory jobs, and those of the same m and k in the even pattern, which alone gp_job tells. */
+static void show_pattern(void)
+{
+    const uint32_t *radio = &table[RADIO * GP_TASK_WORDS];
+    printf("radio slot: mandatory jobs");
+    for (uint32_t job = 0; job < radio_jobs; job++)
+        if (radio_kinds >> job & 1)
+            printf(" %" PRIu32, job);
+    printf("; in the even pattern");
+    for (uint32_t job = 0; job < radio_jobs; job++)
+        if (wanted("job", gp_job(radio[GP_M], radio[GP_K], job)))
+            printf(" %" PRIu32, job);
+    printf("\n");
 }
 
 /* Words that come from a flash or over a wire are looked at before they are run. */
@@ -104,14 +135,17 @@ static void show_earlier(void)
     printf("%d words, as many as an earlier state has: refused=%" PRIu64 "\n", EARLIER_WORDS, answer.refusal);
 }
 
-/* A heavier screen leaves the radio slot too little. The table stays a table, so it could be run; it is not admitted. */
-static void show_refusal(size_t rows)
+/* The verdict with another p in the screen's row. Deeply-red, its three mandatory jobs come together and leave the radio slot too
+   little. That table stays a table, so it could be run; it is not admitted. With a p above 1 it is no table. */
+static void show_screen(size_t rows, uint32_t p)
 {
-    table[2 * GP_TASK_WORDS + GP_C] = 20;
+    table[SCREEN * GP_TASK_WORDS + GP_P] = p;
     struct gp_answer answer = gp_verdict(table, rows * GP_TASK_WORDS, responses, GP_ROWS_MAX);
-    printf("verdict with a screen of c=20: refused=%" PRIu64 " at=%" PRIu64, answer.refusal, answer.value);
+    printf("verdict with a screen of p=%" PRIu32 ": refused=%" PRIu64 " at=%" PRIu64, p, answer.refusal, answer.value);
     if (answer.refusal == GP_UNSCHEDULABLE)
         printf(", the %s does not fit", names[answer.value]);
+    if (answer.refusal == GP_P_RANGE)
+        printf(", no such pattern for the %s", names[answer.value]);
     printf("\n");
 }
 
@@ -121,8 +155,10 @@ int main(void)
     judge(rows);
     run_second(rows);
     show_counts(rows);
+    show_pattern();
     restore();
     show_earlier();
-    show_refusal(rows);
+    show_screen(rows, GP_DEEPLY_RED);
+    show_screen(rows, 2);
     return EXIT_SUCCESS;
 }

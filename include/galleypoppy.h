@@ -3,8 +3,8 @@
  *
  * The functions of `crates/stand_c`, built into `target/staticlib/libstand_c.a` by `rt staticlib stand_c` for x86-64 Linux (the
  * System V calling convention, a 64-bit size_t). Each of them is proved to give the answer that document 01 names (spare: document 02,
- * 1/14; the stored number of met marks: 2/14), on every input, provided that the caller keeps to "What a caller owes" below and the
- * compiler's back end is right.
+ * 1/14; the stored number of met marks: 2/14; the two patterns: 3/14), on every input, provided that the caller keeps to "What a
+ * caller owes" below and the compiler's back end is right.
  *
  * What the functions do not do: allocate, keep anything between calls, read or write anything but the lent runs, stop or jump out.
  * They can be called at the same time on different runs. The archive has no writable data, and the only outside symbols it asks for
@@ -14,8 +14,8 @@
  * holds a table, a state and what it prints, 28,296 bytes; gp_write 1,536, gp_read 1,232, gp_verdict 624, the others under 150.
  *
  * Answers. Every function hands back two numbers. Where `refusal` is 0, the call was accepted and `value` is its answer. Otherwise
- * `refusal` is a number of document 01 (enum gp_refusal), and `value` is the row or the place that goes with it, 0 where there is
- * none. If several refusals apply, the first in the order that stands at the function is given. A refused call alters nothing that
+ * `refusal` is a number of documents 01 and 02 (enum gp_refusal), and `value` is the row or the place that goes with it, 0 where there
+ * is none. If several refusals apply, the first in the order that stands at the function is given. A refused call alters nothing that
  * was lent. An accepted call alters only what its comment says; a room may be longer than needed, and its rest stays as it was.
  *
  * Runs. A lent run of words or bytes is passed as a pointer and then its length: how many words, or how many bytes where it is bytes.
@@ -44,28 +44,28 @@ extern "C" {
 #define GP_ROWS_MAX 32
 
 /* Words of a row of a table, and of the longest table. */
-#define GP_TASK_WORDS 6
+#define GP_TASK_WORDS 7
 #define GP_TABLE_WORDS (GP_ROWS_MAX * GP_TASK_WORDS)
 
-/* Words of a state: three, and 19 for each of 32 rows. */
+/* Words of a state: three, and 20 for each of 32 rows. */
 #define GP_HEAD_WORDS 3
-#define GP_ROW_WORDS 19
+#define GP_ROW_WORDS 20
 #define GP_STATE_WORDS (GP_HEAD_WORDS + GP_ROWS_MAX * GP_ROW_WORDS)
 
 /* Words that gp_counts fills. */
 #define GP_COUNT_WORDS 7
 
 /* Bytes of the longest task text that is accepted, and of a room that is always enough for gp_report. */
-#define GP_TEXT_BYTES 1384
+#define GP_TEXT_BYTES 1512
 #define GP_REPORT_BYTES 5120
 
 /* The last time of the clock. */
 #define GP_CLOCK_END UINT32_C(4294967295)
 
-/* The refusal numbers of document 01, and what `value` is with each. */
+/* The refusal numbers of documents 01 and 02, and what `value` is with each. */
 enum gp_refusal {
     GP_ACCEPTED = 0,        /* no refusal; the answer's value */
-    GP_NOT_WHOLE_ROWS = 1,  /* words not a multiple of six; 0 */
+    GP_NOT_WHOLE_ROWS = 1,  /* words not a multiple of seven; 0 */
     GP_NO_ROWS = 2,         /* no rows; 0 */
     GP_MANY_ROWS = 3,       /* over 32 rows; 0 */
     GP_ID_RANGE = 4,        /* id outside 1..65535; row */
@@ -79,7 +79,8 @@ enum gp_refusal {
     GP_TEXT = 12,           /* text fault; place */
     GP_ROOM = 13,           /* lent room too short for the answer; 0 */
     GP_STATE = 14,          /* state not well formed; 0 */
-    GP_CLOCK = 15           /* time + n past the clock's end; 0 */
+    GP_CLOCK = 15,          /* time + n past the clock's end; 0 */
+    GP_P_RANGE = 16         /* p above 1; row. It comes after 9 and before 10 */
 };
 
 /* Every answer. The name of the type is the header's; its layout is the archive's. */
@@ -88,14 +89,24 @@ struct gp_answer {
     uint64_t value;
 };
 
+/* The patterns that p of a row names. */
+enum gp_pattern {
+    GP_EVEN = 0,       /* the even pattern: gp_job and gp_word tell it */
+    GP_DEEPLY_RED = 1  /* the first m of every k jobs are mandatory: job a, from 0, when a mod k is below m */
+};
+
 /*
- * A table: 32-bit words, six to a row, in the order of the first six of enum gp_field (id, C, T, D, m, k). The order of the rows is
- * the order of priority, row 0 highest.
+ * A table: 32-bit words, seven to a row, in the order of the first seven of enum gp_field (id, C, T, D, m, k, p). The order of the
+ * rows is the order of priority, row 0 highest.
+ *
+ * Before 3/14 a row had six words, with no p. Nothing guesses which form is meant. A table of six-word rows is refused with 1 where
+ * its length is no multiple of seven. Where it is one (7, 14, 21 or 28 rows), the words are judged as rows of seven, and some pass,
+ * as another table than was meant. So put p = GP_EVEN behind the k of every row before such a table is offered.
  *
  * A state: GP_STATE_WORDS 64-bit words. It is all there is to a running table: copy the words to save it, copy them back to restore
- * it, and offer them with the length that was saved. A state that was saved before 2/14 has 579 words, none of them GP_HELD: it is
- * refused with 14 by its length, never misread. Do not lengthen it: padded to GP_STATE_WORDS it is judged as any other words are.
- * First these three:
+ * it, and offer them with the length that was saved. A state that was saved before 3/14 has 611 words, none of them GP_P; before 2/14
+ * it has 579, none of them GP_HELD either. Both are refused with 14 by their length, never misread. Do not lengthen one: padded to
+ * GP_STATE_WORDS it is judged as any other words are. First these three:
  */
 enum gp_head {
     GP_ROWS = 0,  /* number of rows, 1 to 32 */
@@ -103,7 +114,7 @@ enum gp_head {
     GP_IDLE = 2   /* idle ticks among them */
 };
 
-/* Then 19 words a row, in this order. Rows past the last are all 0. */
+/* Then 20 words a row, in this order. Rows past the last are all 0. */
 enum gp_field {
     GP_ID = 0,
     GP_C = 1,
@@ -111,19 +122,20 @@ enum gp_field {
     GP_D = 3,
     GP_M = 4,
     GP_K = 5,
-    GP_WAIT = 6,       /* ticks until the next release, 0 to T - 1 */
-    GP_PLACE = 7,      /* the next job's place in the pattern, 0 to k - 1 */
-    GP_WORK = 8,       /* the live job's work left, 0 where none is live */
-    GP_LEFT = 9,       /* ticks left to its deadline, 0 where none is live */
-    GP_KIND = 10,      /* 1 for a live mandatory job, otherwise 0 */
-    GP_WINDOW = 11,    /* the last k marks, newest in bit 0, 1 for met; bits from k up are clear */
-    GP_RELEASED = 12,  /* jobs released */
-    GP_MM = 13,        /* mandatory met */
-    GP_MX = 14,        /* mandatory missed */
-    GP_OM = 15,        /* optional met */
-    GP_OX = 16,        /* optional missed */
-    GP_BROKEN = 17,    /* settlings after which the window held fewer than m met marks */
-    GP_HELD = 18       /* met marks in the window: 0 to k, the number of its set bits */
+    GP_P = 6,          /* enum gp_pattern */
+    GP_WAIT = 7,       /* ticks until the next release, 0 to T - 1 */
+    GP_PLACE = 8,      /* the next job's place in the pattern, 0 to k - 1 */
+    GP_WORK = 9,       /* the live job's work left, 0 where none is live */
+    GP_LEFT = 10,      /* ticks left to its deadline, 0 where none is live */
+    GP_KIND = 11,      /* 1 for a live mandatory job, otherwise 0 */
+    GP_WINDOW = 12,    /* the last k marks, newest in bit 0, 1 for met; bits from k up are clear */
+    GP_RELEASED = 13,  /* jobs released */
+    GP_MM = 14,        /* mandatory met */
+    GP_MX = 15,        /* mandatory missed */
+    GP_OM = 16,        /* optional met */
+    GP_OX = 17,        /* optional missed */
+    GP_BROKEN = 18,    /* settlings after which the window held fewer than m met marks */
+    GP_HELD = 19       /* met marks in the window: 0 to k, the number of its set bits */
 };
 
 /* The index of a row's word among the words of a state: state[GP_WORD_AT(2, GP_WINDOW)]. */
@@ -142,33 +154,35 @@ enum gp_count {
 };
 
 /*
- * Whether job number `job`, from 0, of a task with m out of k is mandatory. Value: 1, or 0 for optional.
+ * Whether job number `job`, from 0, of a task with m out of k is mandatory by the even rule. Value: 1, or 0 for optional.
+ * It tells of a row with p 0 only. In a row with p 1, job a is mandatory when a mod k is below m.
  * Refusals: 8, 9, each with row 0.
  */
 struct gp_answer gp_job(uint32_t m, uint32_t k, uint32_t job);
 
 /*
- * The pattern word of m out of k. Value: the word; bit a, for a below k, is set exactly when job a is mandatory.
+ * The pattern word of m out of k by the even rule. Value: the word; bit a, for a below k, is set exactly when job a is mandatory.
+ * It tells of a row with p 0 only. In a row with p 1, those bits are 0 to m - 1.
  * Refusals: 8, 9, each with row 0.
  */
 struct gp_answer gp_word(uint32_t m, uint32_t k);
 
 /*
  * Whether words are a table. Value: its number of rows.
- * Refusals: 1, 2, 3, then row by row 4 to 10 in number order.
+ * Refusals: 1, 2, 3, then row by row 4 to 9 in number order, 16, 10.
  */
 struct gp_answer gp_check(const uint32_t *words, size_t words_length);
 
 /*
  * The verdict on a table. Value: its number of rows; the room then holds the response times, one word a row, from the start.
  * GP_ROWS_MAX words are room for every table.
- * Refusals: 1, 2, 3, then row by row 4 to 10 in number order, 13, 11.
+ * Refusals: 1, 2, 3, then row by row 4 to 9 in number order, 16, 10; then 13, 11.
  */
 struct gp_answer gp_verdict(const uint32_t *words, size_t words_length, uint32_t *room, size_t room_length);
 
 /*
  * The fresh state of a table, admitted or not, in the first GP_STATE_WORDS words of the room. Value: its number of rows.
- * Refusals: 1, 2, 3, then row by row 4 to 10 in number order, 13.
+ * Refusals: 1, 2, 3, then row by row 4 to 9 in number order, 16, 10; then 13.
  */
 struct gp_answer gp_fresh(const uint32_t *table, size_t table_length, uint64_t *room, size_t room_length);
 
@@ -209,16 +223,18 @@ struct gp_answer gp_counts(const uint64_t *state, size_t state_length, uint32_t 
 struct gp_answer gp_held(const uint64_t *state, size_t state_length, uint32_t row);
 
 /*
- * Reads a task text. Value: the number of rows; the room then holds the table, six words a row, from the start.
- * GP_TABLE_WORDS words are room for every table.
- * Refusals: 12 for the first line, 2 and 3 for its value, 12 for the remaining lines, then row by row 4 to 10 in number order, 13.
+ * Reads a task text, of a row the lines id, c, t, d, m, k, p. Value: the number of rows; the room then holds the table, seven words a
+ * row, from the start. GP_TABLE_WORDS words are room for every table. A text that was accepted before 3/14, with no line p, is refused
+ * with 12.
+ * Refusals: 12 for the first line, 2 and 3 for its value, 12 for the remaining lines, then row by row 4 to 9 in number order, 16, 10;
+ * then 13.
  */
 struct gp_answer gp_read(const uint8_t *text, size_t text_length, uint32_t *room, size_t room_length);
 
 /*
  * Writes the task text of a table. Value: the length of the text, which stands in the room from the start, with no 0 behind it.
  * GP_TEXT_BYTES bytes are room for every table.
- * Refusals: 1, 2, 3, then row by row 4 to 10 in number order, 13.
+ * Refusals: 1, 2, 3, then row by row 4 to 9 in number order, 16, 10; then 13.
  */
 struct gp_answer gp_write(const uint32_t *words, size_t words_length, uint8_t *room, size_t room_length);
 

@@ -1,22 +1,26 @@
 //! A music stand in small: read the task text, ask for the verdict, run a second of ticks as a timer interrupt would, look at the
-//! counts; save the state on the way and go on from the saved words; meet two refusals. It prints what `include/example.c` prints.
+//! counts and at the pattern of a deeply-red row; save the state on the way and go on from the saved words; meet three refusals. It
+//! prints what `include/example.c` prints.
 
-use galleypoppy::{read, verdict, write, Field, Refusal, State};
+use galleypoppy::{job, read, verdict, write, Field, Kind, Pattern, Refusal, State};
 use galleypoppy::{ROWS_MAX, STATE_WORDS, TABLE_WORDS, TASK_WORDS, TEXT_BYTES};
 
 const SECOND: u32 = 1000;
 const SAVED_AT: u32 = 650;
 
-/// Words of a state that was saved when a row had no [`Field::Held`].
+/// Words of a state that was saved when a row had no [`Field::P`].
 const EARLIER_WORDS: usize = STATE_WORDS - ROWS_MAX;
 
-/// A tick is a millisecond. From the highest row down: pedal scan, tuner, screen, radio slot.
+/// A tick is a millisecond. From the highest row down: pedal scan, tuner, screen, radio slot. The radio slot is deeply-red: of every
+/// four jobs the first two are mandatory, so they come together.
 const TEXT: &[u8] = b"rows=4\n\
-    id=1\nc=1\nt=5\nd=2\nm=1\nk=1\n\
-    id=2\nc=6\nt=20\nd=20\nm=2\nk=3\n\
-    id=3\nc=14\nt=40\nd=40\nm=3\nk=5\n\
-    id=4\nc=20\nt=100\nd=100\nm=1\nk=2\n";
+    id=1\nc=1\nt=5\nd=2\nm=1\nk=1\np=0\n\
+    id=2\nc=6\nt=20\nd=20\nm=2\nk=3\np=0\n\
+    id=3\nc=14\nt=40\nd=40\nm=3\nk=5\np=0\n\
+    id=4\nc=20\nt=100\nd=100\nm=2\nk=4\np=1\n";
 
+const SCREEN: usize = 2;
+const RADIO: usize = 3;
 const NAMES: [&str; 4] = ["pedal scan", "tuner", "screen", "radio slot"];
 
 fn read_table(room: &mut [u32]) -> Result<&[u32], Refusal> {
@@ -43,18 +47,41 @@ fn judge(table: &[u32]) -> Result<(), Refusal> {
     Ok(())
 }
 
-/// One call a tick, as from a timer: the state at the end, and the one saved on the way.
-fn run_second(table: &[u32]) -> Result<(State, State), Refusal> {
+/// What a second of ticks leaves behind.
+struct Second {
+    state: State,
+    /// The state on the way.
+    saved: State,
+    /// The radio slot's mandatory jobs.
+    mandatory: Vec<u32>,
+}
+
+/// The radio slot's jobs so far.
+fn radio_jobs(state: &State) -> u32 {
+    state.word(RADIO, Field::Released).unwrap_or_default() as u32
+}
+
+/// One call a tick, as from a timer. The work of a radio job outlasts the tick of its release, so its kind is there to be read.
+fn run_second(table: &[u32]) -> Result<Second, Refusal> {
     let mut state = State::fresh(table)?;
     let mut saved = state.clone();
+    let mut mandatory = Vec::new();
     while state.time() < SECOND {
+        let jobs = radio_jobs(&state);
         state.tick()?;
+        if radio_jobs(&state) > jobs && state.word(RADIO, Field::Kind) == Some(1) {
+            mandatory.push(jobs);
+        }
         if state.time() == SAVED_AT {
             saved = state.clone();
         }
     }
     println!("run: ticks={} idle={}", state.time(), state.idle());
-    Ok((state, saved))
+    Ok(Second {
+        state,
+        saved,
+        mandatory,
+    })
 }
 
 fn show_counts(state: &State) {
@@ -69,10 +96,27 @@ fn show_counts(state: &State) {
     }
 }
 
+/// The radio slot's mandatory jobs, and those of the same m and k in the even pattern, which alone [`job`] tells.
+fn show_pattern(state: &State, mandatory: &[u32]) -> Result<(), Refusal> {
+    let radio = |field| state.word(RADIO, field).unwrap_or_default() as u32;
+    print!("radio slot: mandatory jobs");
+    for a in mandatory {
+        print!(" {a}");
+    }
+    print!("; in the even pattern");
+    for a in 0..radio_jobs(state) {
+        if job(radio(Field::M), radio(Field::K), a)? == Kind::Mandatory {
+            print!(" {a}");
+        }
+    }
+    println!();
+    Ok(())
+}
+
 /// Words that come from a flash or over a wire are looked at before they are run.
 fn restore(words: &[u64], state: &State) -> Result<(), Refusal> {
     let mut restored = State::restore(words)?;
-    let radio = |field| restored.word(3, field).unwrap_or_default();
+    let radio = |field| restored.word(RADIO, field).unwrap_or_default();
     println!(
         "saved: ticks={}, radio slot: work={} left={} window={}",
         restored.time(),
@@ -99,14 +143,21 @@ fn show_earlier(words: &[u64]) {
     }
 }
 
-/// A heavier screen leaves the radio slot too little. The table stays a table, so it could be run; it is not admitted.
-fn show_refusal(table: &mut [u32]) {
-    table[2 * TASK_WORDS + 1] = 20;
-    print!("verdict with a screen of c=20: ");
+/// The verdict with another p in the screen's row. Deeply-red, its three mandatory jobs come together and leave the radio slot too
+/// little. That table stays a table, so it could be run; it is not admitted. With a p above 1 it is no table.
+fn show_screen(table: &mut [u32], p: u32) {
+    table[SCREEN * TASK_WORDS + 6] = p;
+    print!("verdict with a screen of p={p}: ");
     match verdict(table, &mut [0; ROWS_MAX]) {
         Err(Refusal::Unschedulable(row)) => {
             println!(
                 "refused=11 at={row}, the {} does not fit",
+                NAMES[row as usize]
+            );
+        }
+        Err(Refusal::P(row)) => {
+            println!(
+                "refused=16 at={row}, no such pattern for the {}",
                 NAMES[row as usize]
             );
         }
@@ -118,11 +169,13 @@ fn main() -> Result<(), Refusal> {
     let mut room = [0; TABLE_WORDS];
     let table = read_table(&mut room)?;
     judge(table)?;
-    let (state, saved) = run_second(table)?;
-    show_counts(&state);
-    restore(saved.words(), &state)?;
-    show_earlier(saved.words());
+    let second = run_second(table)?;
+    show_counts(&second.state);
+    show_pattern(&second.state, &second.mandatory)?;
+    restore(second.saved.words(), &second.state)?;
+    show_earlier(second.saved.words());
     let words = table.len();
-    show_refusal(&mut room[..words]);
+    show_screen(&mut room[..words], Pattern::DeeplyRed.p());
+    show_screen(&mut room[..words], 2);
     Ok(())
 }

@@ -1,9 +1,9 @@
 //! Galleypoppy for firmware in Rust: patterns, verdict, dispatcher and task text of the music stand's scheduler.
 //!
 //! The work is done by the functions of `crates/stand_c`, each proved to give the answer that document 01 names (spare: document
-//! 02, 1/14; the stored number of met marks: 2/14) on every input. This package lends them slices, so that what a caller in C owes
-//! (true lengths, alignment, no overlap) is kept by the types. It does not allocate, it does not panic, and all its `unsafe` is in
-//! one module.
+//! 02, 1/14; the stored number of met marks: 2/14; the two patterns: 3/14) on every input. This package lends them slices, so that
+//! what a caller in C owes (true lengths, alignment, no overlap) is kept by the types. It does not allocate, it does not panic, and
+//! all its `unsafe` is in one module.
 //!
 //! A refused call alters nothing that was lent. An accepted one alters only the part of the room that its answer fills, from the
 //! start, and gives back that part.
@@ -12,7 +12,7 @@
 //! use galleypoppy::{read, verdict, Refusal, State, ROWS_MAX, TABLE_WORDS};
 //!
 //! # fn main() -> Result<(), Refusal> {
-//! let text = b"rows=2\nid=11\nc=2\nt=4\nd=4\nm=1\nk=2\nid=12\nc=4\nt=6\nd=6\nm=2\nk=3\n";
+//! let text = b"rows=2\nid=11\nc=2\nt=4\nd=4\nm=1\nk=2\np=0\nid=12\nc=4\nt=6\nd=6\nm=2\nk=3\np=0\n";
 //! let mut words = [0; TABLE_WORDS];
 //! let table = read(text, &mut words)?;
 //! assert_eq!(verdict(table, &mut [0; ROWS_MAX])?, [2, 6]);
@@ -24,7 +24,7 @@
 //! # }
 //! ```
 //!
-//! Stack: [`job`], [`word`], [`tick`], [`run`] and [`report`] lay the pattern book there, 16,640 bytes. A [`State`] is 4,888 bytes.
+//! Stack: [`job`], [`word`], [`tick`], [`run`] and [`report`] lay the pattern book there, 16,640 bytes. A [`State`] is 5,144 bytes.
 #![no_std]
 #![deny(missing_docs)]
 #![deny(unsafe_op_in_unsafe_fn)]
@@ -37,7 +37,7 @@ mod state;
 mod table;
 mod text;
 
-pub use pattern::{job, word, Kind};
+pub use pattern::{job, word, Kind, Pattern};
 pub use refusal::Refusal;
 pub use saved::{counts, fresh, held, run, tick, well, Counts, COUNT_WORDS, STATE_WORDS};
 pub use state::{Field, State};

@@ -11,7 +11,49 @@ pub enum Kind {
     Optional,
 }
 
-/// The kind of job number `job`, from 0, of a task with m out of k.
+/// Which of a row's jobs are mandatory: what its seventh word, p, names.
+#[derive(Clone, Copy, Debug, PartialEq, Eq, Hash)]
+pub enum Pattern {
+    /// p 0: the even pattern. [`job`] and [`word`] tell it.
+    Even,
+    /// p 1: the first m of every k jobs, so job a, from 0, when a mod k is below m.
+    DeeplyRed,
+}
+
+impl Pattern {
+    /// The pattern that a word p names, `None` where p is above 1. A table with such a p is refused with 16.
+    #[must_use]
+    pub const fn of(p: u32) -> Option<Pattern> {
+        match p {
+            0 => Some(Pattern::Even),
+            1 => Some(Pattern::DeeplyRed),
+            _ => None,
+        }
+    }
+
+    /// Its word p.
+    ///
+    /// ```
+    /// use galleypoppy::{check, Pattern, Refusal};
+    ///
+    /// # fn main() -> Result<(), Refusal> {
+    /// let radio = [4, 20, 100, 100, 2, 4, Pattern::DeeplyRed.p()];
+    /// assert_eq!(check(&radio)?, 1);
+    /// # Ok(())
+    /// # }
+    /// ```
+    #[must_use]
+    pub const fn p(self) -> u32 {
+        match self {
+            Pattern::Even => 0,
+            Pattern::DeeplyRed => 1,
+        }
+    }
+}
+
+/// The kind of job number `job`, from 0, of a task with m out of k by the even rule.
+///
+/// It tells of a row with p 0 only. In a row with p 1, job a is mandatory when a mod k is below m.
 ///
 /// ```
 /// use galleypoppy::{job, Kind, Refusal};
@@ -33,7 +75,9 @@ pub fn job(m: u32, k: u32, job: u32) -> Result<Kind, Refusal> {
     })
 }
 
-/// The pattern word of m out of k: bit a, for a below k, is set exactly when job a is mandatory.
+/// The pattern word of m out of k by the even rule: bit a, for a below k, is set exactly when job a is mandatory.
+///
+/// It tells of a row with p 0 only. In a row with p 1, those bits are 0 to m - 1.
 ///
 /// ```
 /// assert_eq!(galleypoppy::word(3, 5), Ok(0b01011));

@@ -1,13 +1,13 @@
-//! The refusals of document 01.
+//! The refusals of documents 01 and 02.
 
 use core::error::Error;
 use core::fmt;
 
-/// Why a call was refused and, where document 01 returns one, the row or the place that goes with it.
+/// Why a call was refused and, where the documents return one, the row or the place that goes with it.
 #[derive(Clone, Copy, Debug, PartialEq, Eq, Hash)]
 #[non_exhaustive]
 pub enum Refusal {
-    /// 1: words not a multiple of six.
+    /// 1: words not a multiple of seven.
     NotWholeRows,
     /// 2: no rows.
     NoRows,
@@ -37,6 +37,8 @@ pub enum Refusal {
     State,
     /// 15: time + n past the clock's end.
     Clock,
+    /// 16: p of this row above 1. It comes after 9 and before 10.
+    P(u64),
     /// Any other number, with what came beside it: the linked archive is not the one that this package goes with.
     Other(u64, u64),
 }
@@ -60,11 +62,12 @@ impl Refusal {
             13 => Refusal::Room,
             14 => Refusal::State,
             15 => Refusal::Clock,
+            16 => Refusal::P(also),
             _ => Refusal::Other(number, also),
         }
     }
 
-    /// Its number in document 01.
+    /// Its number in documents 01 and 02.
     #[must_use]
     pub fn number(self) -> u64 {
         match self {
@@ -83,6 +86,7 @@ impl Refusal {
             Refusal::Room => 13,
             Refusal::State => 14,
             Refusal::Clock => 15,
+            Refusal::P(_) => 16,
             Refusal::Other(number, _) => number,
         }
     }
@@ -97,6 +101,7 @@ impl Refusal {
             | Refusal::C(row)
             | Refusal::K(row)
             | Refusal::M(row)
+            | Refusal::P(row)
             | Refusal::Repeated(row)
             | Refusal::Unschedulable(row) => Some(row),
             Refusal::Text(place) => Some(place),
@@ -105,11 +110,11 @@ impl Refusal {
     }
 }
 
-/// Document 01's words for it, then the number and the row or place as the printing program has them.
+/// The documents' words for it, then the number and the row or place as the printing program has them.
 impl fmt::Display for Refusal {
     fn fmt(&self, f: &mut fmt::Formatter<'_>) -> fmt::Result {
         f.write_str(match self {
-            Refusal::NotWholeRows => "words not a multiple of six",
+            Refusal::NotWholeRows => "words not a multiple of seven",
             Refusal::NoRows => "no rows",
             Refusal::ManyRows => "over 32 rows",
             Refusal::Id(_) => "id outside its range",
@@ -124,6 +129,7 @@ impl fmt::Display for Refusal {
             Refusal::Room => "lent room too short for the answer",
             Refusal::State => "state not well formed",
             Refusal::Clock => "time + n past the clock's end",
+            Refusal::P(_) => "p above 1",
             Refusal::Other(..) => "unknown to this package",
         })?;
         write!(f, " (refused={}", self.number())?;

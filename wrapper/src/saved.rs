@@ -6,11 +6,12 @@ use crate::{ffi, Refusal, ROWS_MAX};
 pub(crate) const HEAD_WORDS: usize = 3;
 
 /// Words of a row of a state, in the order of [`Field`](crate::Field).
-pub(crate) const ROW_WORDS: usize = 19;
+pub(crate) const ROW_WORDS: usize = 20;
 
-/// Words of a state: the number of rows, the time, the idle count, then 19 words for each of 32 rows, 0 where there is no row.
+/// Words of a state: the number of rows, the time, the idle count, then 20 words for each of 32 rows, 0 where there is no row.
 ///
-/// A state that was saved before 2/14 has 579 words, none of them the number of met marks. It is refused with 14 by its length.
+/// A state that was saved before 3/14 has 611 words, none of them a pattern; before 2/14 it has 579, none of them a number of met
+/// marks either. Both are refused with 14 by their length. Do not lengthen one: padded, it is judged as any other words are.
 pub const STATE_WORDS: usize = HEAD_WORDS + ROWS_MAX * ROW_WORDS;
 
 /// Words of a row's counts, in the order of the fields of [`Counts`].
@@ -55,7 +56,7 @@ impl Counts {
 ///
 /// # Errors
 ///
-/// Refusals 1, 2, 3, then row by row 4 to 10 in number order, 13.
+/// Refusals 1, 2, 3, then row by row 4 to 9 in number order, 16, 10; then 13.
 pub fn fresh(table: &[u32], room: &mut [u64]) -> Result<usize, Refusal> {
     ffi::fresh(table, room).map(|rows| rows as usize)
 }
@@ -110,7 +111,7 @@ pub fn counts(state: &[u64], row: u32) -> Result<Counts, Refusal> {
 /// # fn main() -> Result<(), Refusal> {
 /// // Two ticks of work, due after one: every job is missed.
 /// let mut state = [0; STATE_WORDS];
-/// fresh(&[7, 2, 4, 1, 1, 3], &mut state)?;
+/// fresh(&[7, 2, 4, 1, 1, 3, 0], &mut state)?;
 /// assert_eq!(held(&state, 0), Ok(3));
 /// run(&mut state, 5)?;
 /// assert_eq!(held(&state, 0), Ok(1));

@@ -1,7 +1,7 @@
 //! A state that keeps its own words.
 
 use crate::saved::{HEAD_WORDS, ROW_WORDS};
-use crate::{counts, fresh, held, run, tick, well, Counts, Refusal, STATE_WORDS};
+use crate::{counts, fresh, held, run, tick, well, Counts, Pattern, Refusal, STATE_WORDS};
 
 /// The words of a row of a state, in their order.
 #[derive(Clone, Copy, Debug, PartialEq, Eq, Hash)]
@@ -18,6 +18,8 @@ pub enum Field {
     M,
     /// k of m out of k.
     K,
+    /// p, which names the pattern.
+    P,
     /// Ticks until the next release.
     Wait,
     /// The next job's place in the pattern.
@@ -52,7 +54,7 @@ pub enum Field {
 /// use galleypoppy::{Refusal, State};
 ///
 /// # fn main() -> Result<(), Refusal> {
-/// let mut state = State::fresh(&[7, 1, 1, 1, 1, 1])?;
+/// let mut state = State::fresh(&[7, 1, 1, 1, 1, 1, 0])?;
 /// state.run(10)?;
 /// let kept = *state.words();
 ///
@@ -73,14 +75,14 @@ impl State {
     ///
     /// # Errors
     ///
-    /// Refusals 1, 2, 3, then row by row 4 to 10 in number order.
+    /// Refusals 1, 2, 3, then row by row 4 to 9 in number order, 16, 10.
     pub fn fresh(table: &[u32]) -> Result<State, Refusal> {
         let mut words = [0; STATE_WORDS];
         fresh(table, &mut words)?;
         Ok(State { words })
     }
 
-    /// The state that saved words say. Words of an earlier version, 579 in number, are refused.
+    /// The state that saved words say. Words of an earlier version, 611 or 579 in number, are refused.
     ///
     /// # Errors
     ///
@@ -121,6 +123,12 @@ impl State {
         let rows = self.words.get(HEAD_WORDS..)?;
         let words = rows.chunks_exact(ROW_WORDS).take(self.rows()).nth(row)?;
         words.get(field as usize).copied()
+    }
+
+    /// The pattern of a row, `None` where there is no such row.
+    #[must_use]
+    pub fn pattern(&self, row: usize) -> Option<Pattern> {
+        Pattern::of(self.word(row, Field::P)? as u32)
     }
 
     /// The counts of a row, `None` where there is no such row.

@@ -3,26 +3,27 @@
 use crate::{ffi, filled, Refusal, TASK_WORDS};
 
 /// Bytes of the longest task text that is accepted.
-pub const TEXT_BYTES: usize = 1384;
+pub const TEXT_BYTES: usize = 1512;
 
 /// Bytes of a room that is always enough for [`report`].
 pub const REPORT_BYTES: usize = 5120;
 
-/// Reads a task text: the table, six words a row, from the start of the room. [`TABLE_WORDS`](crate::TABLE_WORDS) words are room
-/// for every table.
+/// Reads a task text, of a row the lines id, c, t, d, m, k, p: the table, seven words a row, from the start of the room.
+/// [`TABLE_WORDS`](crate::TABLE_WORDS) words are room for every table. A text that was accepted before 3/14, with no line p, is
+/// refused with 12.
 ///
 /// ```
 /// use galleypoppy::{read, Refusal};
 ///
-/// let mut room = [0; 6];
-/// assert_eq!(read(b"rows=1\nid=7\nc=1\nt=2\nd=2\nm=1\nk=1\n", &mut room), Ok(&[7, 1, 2, 2, 1, 1][..]));
+/// let mut room = [0; 7];
+/// assert_eq!(read(b"rows=1\nid=7\nc=1\nt=2\nd=2\nm=1\nk=1\np=0\n", &mut room), Ok(&[7, 1, 2, 2, 1, 1, 0][..]));
 /// assert_eq!(read(b"rows=1\nid=07\n", &mut room), Err(Refusal::Text(11)));
 /// ```
 ///
 /// # Errors
 ///
-/// Refusals 12 for the first line, 2 and 3 for its value, 12 for the remaining lines, then row by row 4 to 10 in number order,
-/// 13.
+/// Refusals 12 for the first line, 2 and 3 for its value, 12 for the remaining lines, then row by row 4 to 9 in number order,
+/// 16, 10; then 13.
 pub fn read<'a>(text: &[u8], room: &'a mut [u32]) -> Result<&'a [u32], Refusal> {
     let rows = ffi::read(text, room)?;
     Ok(filled(room, rows as usize * TASK_WORDS))
@@ -32,7 +33,7 @@ pub fn read<'a>(text: &[u8], room: &'a mut [u32]) -> Result<&'a [u32], Refusal> 
 ///
 /// # Errors
 ///
-/// Refusals 1, 2, 3, then row by row 4 to 10 in number order, 13.
+/// Refusals 1, 2, 3, then row by row 4 to 9 in number order, 16, 10; then 13.
 pub fn write<'a>(words: &[u32], room: &'a mut [u8]) -> Result<&'a [u8], Refusal> {
     let length = ffi::write(words, room)?;
     Ok(filled(room, length as usize))

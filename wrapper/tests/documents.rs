@@ -1,13 +1,14 @@
-//! "Examples on each side of a limit": P1 to P12 of document 01, through the wrapper.
+//! "Examples on each side of a limit": P1 to P12 of document 01, through the wrapper. Every row is even: its p is 0.
 
-use galleypoppy::{check, job, verdict, word, Kind, Refusal, State};
+use galleypoppy::{check, job, read, verdict, word, write, Kind, Refusal, State};
+use galleypoppy::{ROWS_MAX, TABLE_WORDS, TEXT_BYTES};
 
-const P5: [u32; 12] = [11, 2, 4, 4, 1, 2, 12, 4, 6, 6, 2, 3];
-const P7: [u32; 12] = [1, 2, 4, 4, 1, 1, 2, 2, 5, 5, 1, 1];
+const P5: [u32; 14] = [11, 2, 4, 4, 1, 2, 0, 12, 4, 6, 6, 2, 3, 0];
+const P7: [u32; 14] = [1, 2, 4, 4, 1, 1, 0, 2, 2, 5, 5, 1, 1, 0];
 
 /// The words with C of row 1 put to another value.
-fn with_c(mut words: [u32; 12], c: u32) -> [u32; 12] {
-    words[7] = c;
+fn with_c(mut words: [u32; 14], c: u32) -> [u32; 14] {
+    words[8] = c;
     words
 }
 
@@ -49,7 +50,7 @@ fn p5_to_p8_verdicts() {
 
 #[test]
 fn p9_is_never_idle() -> Result<(), Refusal> {
-    let table = [1, 1, 1, 1, 1, 1];
+    let table = [1, 1, 1, 1, 1, 1, 0];
     assert_eq!(verdict(&table, &mut [0])?, [1]);
     let mut state = State::fresh(&table)?;
     state.run(1_000_000)?;
@@ -59,7 +60,7 @@ fn p9_is_never_idle() -> Result<(), Refusal> {
 
 #[test]
 fn p10_misses_at_time_1() -> Result<(), Refusal> {
-    let table = [1, 2, 4, 1, 1, 1];
+    let table = [1, 2, 4, 1, 1, 1, 0];
     assert_eq!(verdict(&table, &mut [0]), Err(Refusal::Unschedulable(0)));
     let mut state = State::fresh(&table)?;
     assert_eq!(state.counts(0).map(|counts| counts.mx), Some(0));
@@ -71,7 +72,22 @@ fn p10_misses_at_time_1() -> Result<(), Refusal> {
 #[test]
 fn p11_and_p12_refusals_of_words() {
     assert_eq!(check(&[]), Err(Refusal::NoRows));
-    assert_eq!(check(&[1; 7]), Err(Refusal::NotWholeRows));
-    let k_65_then_id_0 = [1, 1, 1, 1, 1, 65, 0, 1, 1, 1, 1, 1];
+    assert_eq!(check(&[1; 8]), Err(Refusal::NotWholeRows));
+    let k_65_then_id_0 = [1, 1, 1, 1, 1, 65, 0, 0, 1, 1, 1, 1, 1, 0];
     assert_eq!(check(&k_65_then_id_0), Err(Refusal::K(0)));
+}
+
+/// Every value as long as it can be: the room for every text is filled to the last byte, and the text is read back.
+#[test]
+fn the_longest_text() -> Result<(), Refusal> {
+    let rows = 65_504..65_504 + ROWS_MAX as u32;
+    let table: Vec<u32> = rows
+        .flat_map(|id| [id, 65_535, 65_535, 65_535, 64, 64, 1])
+        .collect();
+    let mut room = [0; TEXT_BYTES];
+    assert_eq!(write(&table, &mut room[1..]), Err(Refusal::Room));
+    let text = write(&table, &mut room)?;
+    assert_eq!((text.len(), TEXT_BYTES), (1512, 1512));
+    assert_eq!(read(text, &mut [0; TABLE_WORDS])?, table);
+    Ok(())
 }

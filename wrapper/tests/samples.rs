@@ -10,22 +10,20 @@ fn folder() -> PathBuf {
     Path::new(env!("CARGO_MANIFEST_DIR")).join("../samples")
 }
 
-const NAMES: [&str; 6] = [
-    "documents_example",
-    "misses_left",
-    "music_stand",
-    "refused",
-    "thirty_two_rows",
-    "turned_down",
-];
-
-/// Each input with the output that stands beside it.
-fn samples() -> [(Vec<u8>, Vec<u8>); 6] {
-    NAMES.map(|name| {
-        let path = folder().join(name);
-        let bytes = |end| fs::read(path.with_extension(end)).expect("a file of the sample");
-        (bytes("txt"), bytes("out"))
-    })
+/// Each input of the folder with the output that stands beside it.
+fn samples() -> Vec<(Vec<u8>, Vec<u8>)> {
+    let files = fs::read_dir(folder()).expect("the samples");
+    let inputs = files
+        .map(|file| file.expect("a file of the folder").path())
+        .filter(|path| path.extension().is_some_and(|end| end == "txt"));
+    let samples: Vec<_> = inputs
+        .map(|input| {
+            let bytes = |end| fs::read(input.with_extension(end)).expect("a file of the sample");
+            (bytes("txt"), bytes("out"))
+        })
+        .collect();
+    assert!(samples.len() >= 6);
+    samples
 }
 
 /// The ticks of an input, and its task text.
@@ -103,8 +101,16 @@ fn the_same_by_the_other_functions() -> Result<(), Refusal> {
 #[test]
 fn the_refused_one() {
     let input = fs::read(folder().join("refused.txt")).expect("a sample");
+    let output = fs::read_to_string(folder().join("refused.out")).expect("its output");
+    let place = output
+        .strip_prefix("refused=12\nat=")
+        .expect("a text fault")
+        .trim_end();
     let (_, text) = parts(&input);
-    let before = (input.len() - text.len()) as u64;
+    let before = input.len() - text.len();
     let refused = read(text, &mut [0; TABLE_WORDS]).map(<[u32]>::to_vec);
-    assert_eq!(refused, Err(Refusal::Text(55 - before)));
+    let Err(Refusal::Text(at)) = refused else {
+        panic!("{refused:?}");
+    };
+    assert_eq!((at + before as u64).to_string(), place);
 }

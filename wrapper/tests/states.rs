@@ -1,20 +1,21 @@
 //! A state by value and its words lent: the same ticks, saved and restored.
 
 use galleypoppy::{counts, fresh, held, run, tick, well};
-use galleypoppy::{Counts, Field, Refusal, State, STATE_WORDS};
+use galleypoppy::{Counts, Field, Pattern, Refusal, State, STATE_WORDS};
 
 /// Document 01's table.
-const TABLE: [u32; 12] = [11, 2, 4, 4, 1, 2, 12, 4, 6, 6, 2, 3];
+const TABLE: [u32; 14] = [11, 2, 4, 4, 1, 2, 0, 12, 4, 6, 6, 2, 3, 0];
 
 /// The music stand: marks come and go in the windows of its tuner and its radio slot.
-const STAND: [u32; 24] = [
-    1, 1, 5, 2, 1, 1, 2, 6, 20, 20, 2, 3, 3, 14, 40, 40, 3, 5, 4, 20, 100, 100, 1, 2,
+const STAND: [u32; 28] = [
+    1, 1, 5, 2, 1, 1, 0, 2, 6, 20, 20, 2, 3, 0, 3, 14, 40, 40, 3, 5, 0, 4, 20, 100, 100, 1, 2, 0,
 ];
 
-/// Words of a row of a state, and where its window and the number of its met marks stand among them.
-const ROW: usize = 19;
-const WINDOW: usize = 11;
-const HELD: usize = 18;
+/// Words of a row of a state, and where its pattern, its window and the number of its met marks stand among them.
+const ROW: usize = 20;
+const P: usize = 6;
+const WINDOW: usize = 12;
+const HELD: usize = 19;
 
 /// The met marks of a row's window, counted.
 fn counted(state: &State, row: usize) -> Option<u64> {
@@ -26,14 +27,37 @@ fn counted(state: &State, row: usize) -> Option<u64> {
 fn fresh_as_document_01_says() -> Result<(), Refusal> {
     let state = State::fresh(&TABLE)?;
     assert_eq!((state.rows(), state.time(), state.idle()), (2, 0, 0));
-    let row = [12, 4, 6, 6, 2, 3, 0, 0, 0, 0, 0, 0b111, 0, 0, 0, 0, 0, 0, 3];
-    assert_eq!(STATE_WORDS, 611);
+    let row = [
+        12, 4, 6, 6, 2, 3, 0, 0, 0, 0, 0, 0, 0b111, 0, 0, 0, 0, 0, 0, 3,
+    ];
+    assert_eq!(STATE_WORDS, 643);
     assert_eq!(state.words()[3 + ROW..3 + 2 * ROW], row);
     assert!(state.words()[3 + 2 * ROW..].iter().all(|&word| word == 0));
     assert_eq!(state.word(1, Field::Window), Some(0b111));
     assert_eq!(state.word(1, Field::Broken), Some(0));
     assert_eq!(state.word(1, Field::Held), Some(3));
     assert_eq!(state.word(2, Field::Id), None);
+    Ok(())
+}
+
+/// A state whose table has a p above 1 is not well formed; nor is one with a p past the last row. The other pattern is taken.
+#[test]
+fn a_wrong_p_is_refused() -> Result<(), Refusal> {
+    let mut state = State::fresh(&STAND)?;
+    state.run(333)?;
+    for row in 0..state.rows() {
+        let mut words = *state.words();
+        for wrong in [2, 64, 1 << 32, u64::MAX] {
+            words[3 + row * ROW + P] = wrong;
+            refused_as_a_state(&words);
+        }
+        words[3 + row * ROW + P] = 1;
+        let other = State::restore(&words)?;
+        assert_eq!(other.pattern(row), Some(Pattern::DeeplyRed));
+    }
+    let mut words = *state.words();
+    words[3 + 4 * ROW + P] = 1;
+    refused_as_a_state(&words);
     Ok(())
 }
 
@@ -77,7 +101,7 @@ fn document_01s_counts() -> Result<(), Refusal> {
 /// One met mark of three is enough for the row: as the oldest mark it is lost with the next miss, as the newest it outlasts two.
 #[test]
 fn spare_is_the_misses_left() -> Result<(), Refusal> {
-    let mut state = State::fresh(&[1, 2, 3, 3, 1, 3, 2, 7, 9, 9, 1, 1])?;
+    let mut state = State::fresh(&[1, 2, 3, 3, 1, 3, 0, 2, 7, 9, 9, 1, 1, 0])?;
     state.run(9)?;
     assert_eq!(state.counts(0).map(|row| row.spare), Some(0));
     state.run(3)?;
@@ -90,7 +114,7 @@ fn held_is_k_when_fresh() -> Result<(), Refusal> {
     let ks = [1, 2, 3, 5, 63, 64];
     let table: Vec<u32> = (1..)
         .zip(ks)
-        .flat_map(|(id, k)| [id, 1, 9, 9, 1, k])
+        .flat_map(|(id, k)| [id, 1, 9, 9, 1, k, id % 2])
         .collect();
     let state = State::fresh(&table)?;
     for (row, k) in ks.into_iter().enumerate() {
@@ -102,7 +126,7 @@ fn held_is_k_when_fresh() -> Result<(), Refusal> {
 /// Every job of the row is missed, at ticks 1, 5, 9 and so on: its three met marks go one by one, and then there are none to go.
 #[test]
 fn held_falls_with_each_miss() -> Result<(), Refusal> {
-    let mut state = State::fresh(&[1, 2, 4, 1, 1, 3])?;
+    let mut state = State::fresh(&[1, 2, 4, 1, 1, 3, 0])?;
     for marks in [3, 2, 1, 0, 0] {
         assert_eq!(state.held(0), Some(marks));
         state.run(if state.time() == 0 { 1 } else { 4 })?;
@@ -198,19 +222,22 @@ fn refused_as_a_state(words: &[u64]) {
     assert_eq!(lent, words);
 }
 
-/// The words as they were saved before a row had its number of met marks: 18 a row.
+/// The words as they were saved before a row had its pattern, 19 a row, and before it had its number of met marks, 18 a row.
 #[test]
 fn an_earlier_state_is_refused() -> Result<(), Refusal> {
     let mut state = State::fresh(&STAND)?;
     for _ in 0..3 {
-        let (head, rows) = state.words().split_at(3);
-        let mut earlier = head.to_vec();
-        for row in rows.chunks(ROW) {
-            earlier.extend_from_slice(&row[..HELD]);
+        for (end, length) in [(ROW, 611), (HELD, 579)] {
+            let (head, rows) = state.words().split_at(3);
+            let mut earlier = head.to_vec();
+            for row in rows.chunks(ROW) {
+                earlier.extend_from_slice(&row[..P]);
+                earlier.extend_from_slice(&row[P + 1..end]);
+            }
+            assert_eq!(earlier.len(), length);
+            refused_as_a_state(&earlier);
+            assert_eq!(held(&earlier, 0), Err(Refusal::State));
         }
-        assert_eq!(earlier.len(), 579);
-        refused_as_a_state(&earlier);
-        assert_eq!(held(&earlier, 0), Err(Refusal::State));
         state.run(333)?;
     }
     Ok(())
