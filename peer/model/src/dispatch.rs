@@ -1,7 +1,7 @@
 //! "One tick": the state, when it is well formed, and the dispatcher.
 
 use crate::answer::{refusal, Answer};
-use crate::pattern;
+use crate::pattern::Pattern;
 use crate::table::{self, Table, TaskRow, ROWS_MAX, ROW_WORDS};
 
 /// "The clock ends at 4,294,967,295."
@@ -10,14 +10,17 @@ pub const CLOCK_END: u32 = u32::MAX;
 /// Words before the rows of a saved state: rows, time, idle.
 pub const HEAD_WORDS: usize = 3;
 
-/// Words of one saved row: id, c, t, d, m, k, wait, place, work, left, kind,
+/// Words of one saved row: id, c, t, d, m, k, p, wait, place, work, left, kind,
 /// window, released, mm, mx, om, ox, broken, held.
-pub const SAVED_ROW_WORDS: usize = 19;
+pub const SAVED_ROW_WORDS: usize = 20;
+
+/// Where p stands in a saved row, the last of its table's words.
+pub const P: usize = ROW_WORDS - 1;
 
 /// Where the number of met marks stands in a saved row, and the window that it is
 /// the number of.
-pub const HELD: usize = 18;
-pub const WINDOW: usize = 11;
+pub const HELD: usize = 19;
+pub const WINDOW: usize = 12;
 
 /// Words of a saved state: always room for 32 rows.
 pub const STATE_WORDS: usize = HEAD_WORDS + ROWS_MAX * SAVED_ROW_WORDS;
@@ -32,6 +35,8 @@ pub struct Row {
     pub d: u32,
     pub m: u32,
     pub k: u32,
+    /// "0 for even, 1 for deeply-red" (document 02, 3/14)
+    pub p: u32,
     /// "ticks until its next release (wait)"
     pub wait: u32,
     /// "the next job's place in its pattern"
@@ -122,6 +127,7 @@ impl Row {
             d: task.d,
             m: task.m,
             k: task.k,
+            p: task.p,
             window: marks(task.k),
             held: task.k,
             ..Row::default()
@@ -136,6 +142,7 @@ impl Row {
             d: self.d,
             m: self.m,
             k: self.k,
+            p: self.p,
         }
     }
 
@@ -206,9 +213,9 @@ pub fn well_formed(state: &State) -> bool {
 /// The state's own table, judged as any other table is.
 fn table_well_formed(rows: &[Row]) -> bool {
     let mut words = [0; ROWS_MAX * ROW_WORDS];
-    let (sixes, _) = words.as_chunks_mut::<ROW_WORDS>();
-    for (six, row) in sixes.iter_mut().zip(rows) {
-        *six = row.task().words();
+    let (sevens, _) = words.as_chunks_mut::<ROW_WORDS>();
+    for (seven, row) in sevens.iter_mut().zip(rows) {
+        *seven = row.task().words();
     }
     table::check(&words[..rows.len() * ROW_WORDS]).is_accepted()
 }
@@ -395,11 +402,12 @@ fn end_of_run(state: &State, n: u32) -> Result<u32, Answer> {
     end.ok_or(Answer::refused(refusal::CLOCK))
 }
 
-/// Each row's word out of the pattern book.
+/// Each row's own pattern, a bit for each place.
 fn patterns_of(rows: &[Row]) -> [u64; ROWS_MAX] {
     let mut patterns = [0; ROWS_MAX];
     for (word, row) in patterns.iter_mut().zip(rows) {
-        *word = pattern::entry(row.m, row.k);
+        let Row { m, k, p, .. } = *row;
+        *word = Pattern { m, k, p }.word();
     }
     patterns
 }
@@ -475,7 +483,7 @@ pub fn tick(state: &mut State) -> Answer {
     run(state, 1)
 }
 
-/// The saved form of a state: [rows, time, idle], then 32 rows of 19 words.
+/// The saved form of a state: [rows, time, idle], then 32 rows of 20 words.
 pub fn to_words(state: &State) -> [u64; STATE_WORDS] {
     let mut words = [0; STATE_WORDS];
     words[0] = u64::from(state.rows);
@@ -490,7 +498,7 @@ pub fn to_words(state: &State) -> [u64; STATE_WORDS] {
 
 fn saved_row(row: &Row) -> [u64; SAVED_ROW_WORDS] {
     let low = [
-        row.id, row.c, row.t, row.d, row.m, row.k, row.wait, row.place, row.work, row.left,
+        row.id, row.c, row.t, row.d, row.m, row.k, row.p, row.wait, row.place, row.work, row.left,
         row.kind,
     ];
     let mut saved = [0; SAVED_ROW_WORDS];
@@ -510,7 +518,7 @@ pub(crate) fn counts(row: &Row) -> [u64; 6] {
 }
 
 /// The state that the words save, or `None` when there is none: a length other
-/// than 611, or a word too large for its field. Well formed or not is another
+/// than 643, or a word too large for its field. Well formed or not is another
 /// question.
 pub fn from_words(words: &[u64]) -> Option<State> {
     let words: &[u64; STATE_WORDS] = words.try_into().ok()?;
@@ -536,18 +544,19 @@ fn row_from(saved: &[u64; SAVED_ROW_WORDS]) -> Option<Row> {
         d: field(3)?,
         m: field(4)?,
         k: field(5)?,
-        wait: field(6)?,
-        place: field(7)?,
-        work: field(8)?,
-        left: field(9)?,
-        kind: field(10)?,
+        p: field(P)?,
+        wait: field(7)?,
+        place: field(8)?,
+        work: field(9)?,
+        left: field(10)?,
+        kind: field(11)?,
         window: saved[WINDOW],
-        released: field(12)?,
-        mm: field(13)?,
-        mx: field(14)?,
-        om: field(15)?,
-        ox: field(16)?,
-        broken: field(17)?,
+        released: field(13)?,
+        mm: field(14)?,
+        mx: field(15)?,
+        om: field(16)?,
+        ox: field(17)?,
+        broken: field(18)?,
         held: field(HELD)?,
     })
 }
@@ -568,7 +577,7 @@ pub fn run_words(words: &mut [u64], n: u32) -> Answer {
     };
     let answer = run(&mut state, n);
     if answer.is_accepted() {
-        // The length is 611: from_words has taken these words.
+        // The length is 643: from_words has taken these words.
         words.copy_from_slice(&to_words(&state));
     }
     answer
@@ -579,7 +588,7 @@ pub fn tick_words(words: &mut [u64]) -> Answer {
     run_words(words, 1)
 }
 
-/// The fresh state of a table, saved into the first 611 words of the lent room.
+/// The fresh state of a table, saved into the first 643 words of the lent room.
 /// The table's refusals come first, then 13. The value is the number of rows.
 pub fn fresh_words(table: &[u32], room: &mut [u64]) -> Answer {
     let state = match fresh(table) {

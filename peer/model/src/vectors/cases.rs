@@ -2,14 +2,15 @@
 //! refusal, and drawn tables and states, sound and damaged. They are the same
 //! whenever they are written.
 
-use super::{line, COUNT_ROOM_MAX, ROOM_MAX, STATE_ROOM_MAX};
+mod red;
+
+use super::{line, COUNT_ROOM_MAX, ROOM_MAX, STATE_ROOM_MAX, WORDS_MAX};
 use crate::counts::COUNT_WORDS;
 use crate::dispatch::{fresh_words, run_words, CLOCK_END};
 use crate::dispatch::{HEAD_WORDS, HELD, SAVED_ROW_WORDS, STATE_WORDS, WINDOW};
 use crate::gen::{damaged_states, faulty_table, job_question, loaded_table, table, tiny_table};
-use crate::gen::{
-    damaged_text, good_text, longest_table, report_input, special_inputs, special_texts,
-};
+use crate::gen::{damaged_text, good_text, longest_table, report_input};
+use crate::gen::{seventh_line_texts, special_inputs, special_texts};
 use crate::pattern::K_MAX;
 use crate::report::report;
 use crate::rng::Rng;
@@ -17,15 +18,15 @@ use crate::table::{ROWS_MAX, ROW_WORDS, WORD_MAX};
 use crate::text::text_of;
 use crate::verdict::verdict_leaping;
 
-/// P5 to P10 of document 01, in its order, and then P12.
+/// P5 to P10 of document 01, in its order, and then P12, each row with p 0.
 const P: [&[u32]; 7] = [
-    &[11, 2, 4, 4, 1, 2, 12, 4, 6, 6, 2, 3],
-    &[11, 2, 4, 4, 1, 2, 12, 5, 6, 6, 2, 3],
-    &[1, 2, 4, 4, 1, 1, 2, 2, 5, 5, 1, 1],
-    &[1, 2, 4, 4, 1, 1, 2, 3, 5, 5, 1, 1],
-    &[1, 1, 1, 1, 1, 1],
-    &[1, 2, 4, 1, 1, 1],
-    &[1, 1, 1, 1, 1, 65, 0, 1, 1, 1, 1, 1],
+    &[11, 2, 4, 4, 1, 2, 0, 12, 4, 6, 6, 2, 3, 0],
+    &[11, 2, 4, 4, 1, 2, 0, 12, 5, 6, 6, 2, 3, 0],
+    &[1, 2, 4, 4, 1, 1, 0, 2, 2, 5, 5, 1, 1, 0],
+    &[1, 2, 4, 4, 1, 1, 0, 2, 3, 5, 5, 1, 1, 0],
+    &[1, 1, 1, 1, 1, 1, 0],
+    &[1, 2, 4, 1, 1, 1, 0],
+    &[1, 1, 1, 1, 1, 65, 0, 0, 1, 1, 1, 1, 1, 0],
 ];
 
 /// The ones of them that are tables.
@@ -105,7 +106,7 @@ impl Cases {
     fn short(&mut self, draw: fn(&mut Rng) -> Vec<u8>) -> Vec<u8> {
         loop {
             let text = draw(&mut self.rng);
-            if text.len() <= 120 {
+            if text.len() <= 130 {
                 return text;
             }
         }
@@ -114,7 +115,8 @@ impl Cases {
     fn few_rows(&mut self, draw: fn(&mut Rng) -> Vec<u32>) -> Vec<u32> {
         loop {
             let words = draw(&mut self.rng);
-            if words.len() <= 4 * ROW_WORDS || self.rng.once_in(60) {
+            let few = words.len() <= 4 * ROW_WORDS || self.rng.once_in(60);
+            if few && words.len() <= WORDS_MAX {
                 return words;
             }
         }
@@ -153,15 +155,19 @@ fn pairs(cases: &mut Cases) {
 
 /// So many sound rows with the ids 1, 2, and on.
 fn rows_of(rows: usize) -> Vec<u32> {
-    let row = |id| [id, 1, 64, 64, 1, 2];
+    let row = |id| [id, 1, 64, 64, 1, 2, id % 2];
     (1..=rows as u32).flat_map(row).collect()
 }
 
-/// Two sound rows, and in the second a set of the faults 4 to 10: bit 0 for 4.
-/// The words fall short of their ranges, or go past them where `past` is set.
+/// The faults of a row in the order in which they are looked for: 4 to 9, 16, 10.
+const FAULTS: u32 = 8;
+
+/// Two sound rows, and in the second a set of those faults: bit 0 for 4. The words
+/// fall short of their ranges, or go past them where `past` is set; p is far past its
+/// range or just past it.
 fn faults(set: u32, past: bool) -> Vec<u32> {
     let mut words = rows_of(2);
-    let [id, c, t, d, m, k] = [6, 7, 8, 9, 10, 11];
+    let [id, c, t, d, m, k, p] = [7, 8, 9, 10, 11, 12, 13];
     let ends = [
         (id, WORD_MAX),
         (t, WORD_MAX),
@@ -170,8 +176,11 @@ fn faults(set: u32, past: bool) -> Vec<u32> {
         (k, K_MAX),
         (m, K_MAX),
     ];
-    if set >> 6 & 1 == 1 {
+    if set >> 7 & 1 == 1 {
         words[id] = words[0];
+    }
+    if set >> 6 & 1 == 1 {
+        words[p] = if past { 2 } else { u32::MAX };
     }
     for (bit, (at, end)) in ends.into_iter().enumerate() {
         if set >> bit & 1 == 1 {
@@ -185,15 +194,15 @@ fn checks(cases: &mut Cases) {
     for words in P {
         cases.add(&[], words);
     }
-    // P11 and its like: no words, seven words, and every other small number.
-    for length in 0..=20 {
+    // P11 and its like: no words, eight words, and every other small number.
+    for length in 0..=23 {
         cases.add(&[], &rows_of(4)[..length]);
     }
-    for rows in [31, 32, 33, 34, 42] {
+    for rows in [31, 32, 33, 34, 36] {
         cases.add(&[], &rows_of(rows));
         cases.add(&[], &rows_of(rows)[1..]);
     }
-    for set in 0..128 {
+    for set in 0..1 << FAULTS {
         cases.add(&[], &faults(set, false));
         cases.add(&[], &faults(set, true));
     }
@@ -205,6 +214,7 @@ fn checks(cases: &mut Cases) {
         let words = cases.faulty();
         cases.add(&[], &words);
     }
+    red::checks(cases);
 }
 
 /// The room's length, the rows of the table, and those on either side of it.
@@ -244,7 +254,7 @@ fn verdicts(cases: &mut Cases) {
             cases.add(&[room], &words);
         }
     }
-    for set in 0..128 {
+    for set in 0..1 << FAULTS {
         cases.add(&[u64::from(set % 3)], &faults(set, set % 2 == 0));
     }
     for _ in 0..90 {
@@ -264,12 +274,13 @@ fn verdicts(cases: &mut Cases) {
         let room = cases.rng.choose(&verdict_rooms(&words)).unwrap_or(0);
         cases.add(&[room], &words);
     }
+    red::verdicts(cases);
 }
 
-/// Words of a saved state before it had the number of met marks.
-const OLD_STATE_WORDS: usize = 579;
+/// Words of a saved state before its rows had a p.
+const OLD_STATE_WORDS: usize = 611;
 
-/// Lengths of a room for a state, on both sides of 611.
+/// Lengths of a room for a state, on both sides of 643.
 const STATE_ROOMS: [usize; 8] = [
     STATE_WORDS,
     STATE_WORDS - 1,
@@ -288,7 +299,7 @@ fn starts(cases: &mut Cases) {
         }
     }
     for words in
-        [0, 1, 5, 6, 7, 12, 186, 192, 193, 198].map(|length| rows_of(33)[..length].to_vec())
+        [0, 1, 6, 7, 8, 14, 217, 224, 225, 231].map(|length| rows_of(33)[..length].to_vec())
     {
         cases.add(&[STATE_WORDS as u64], &words);
     }
@@ -361,6 +372,11 @@ fn runs(cases: &mut Cases) {
         cases.add(&[length as u64, 3, NOWHERE, 0, 5], P[0]);
         cases.add(&[length as u64, 3, 2, 4, 5], P[6]);
     }
+    // At the clock's end, on either side of it, and no tick or one after.
+    for (time, more) in (0..3).flat_map(|past| [(past, 0), (past, 1)]) {
+        let time = u64::from(CLOCK_END) - 1 + time;
+        cases.add(&[room, 3, 1, time, more], P[0]);
+    }
     for turn in 0..150 {
         let words = if turn % 3 == 0 {
             cases.few_rows(tiny_table)
@@ -383,6 +399,7 @@ fn runs(cases: &mut Cases) {
     for (words, n, value) in untrue() {
         cases.add(&[room, n, word_at(1, HELD), value, 3], &words);
     }
+    red::runs(cases);
 }
 
 fn counts(cases: &mut Cases) {
@@ -466,7 +483,7 @@ fn spares(cases: &mut Cases) {
     let (room, counts) = (STATE_WORDS as u64, COUNT_WORDS as u64);
     for (turn, (m, k, window)) in SPARES.into_iter().enumerate() {
         let row = turn % 2;
-        let mut words = [7, 1, 4, 4, 2, 6, 8, 1, 4, 4, 2, 6];
+        let mut words = [7, 1, 4, 4, 2, 6, 0, 8, 1, 4, 4, 2, 6, 1];
         words[row * ROW_WORDS + 1..][..5].copy_from_slice(&[2, 1, 1, m, k]);
         let missed = u64::from(k - window.count_ones());
         let at = word_at(row, WINDOW);
@@ -482,9 +499,9 @@ const END_KS: [u32; 6] = [1, 2, 3, 32, 63, 64];
 /// the oldest, and all again.
 fn ends(k: u32) -> [(Vec<u32>, u64); 7] {
     // Row 0 comes first: in k ticks of k + 1, or in one tick of 2k.
-    let row_1 = [2, 1, 1, 1, 1, k];
-    let missing = [[1, k, k + 1, k + 1, 1, 1], row_1].concat();
-    let meeting = [[1, 1, 2 * k, 2 * k, 1, 1], row_1].concat();
+    let row_1 = [2, 1, 1, 1, 1, k, 0];
+    let missing = [[1, k, k + 1, k + 1, 1, 1, 1], row_1].concat();
+    let meeting = [[1, 1, 2 * k, 2 * k, 1, 1, 0], row_1].concat();
     let k = u64::from(k);
     [
         (missing.clone(), 0),
@@ -567,7 +584,10 @@ fn held_damaged(cases: &mut Cases) {
 /// number of rows and nothing else that was laid there.
 fn held_no_state(cases: &mut Cases) {
     let room = STATE_WORDS as u64;
-    for length in STATE_ROOMS.into_iter().chain([2, 3, 578, 580, 609, 613]) {
+    for length in STATE_ROOMS
+        .into_iter()
+        .chain([2, 3, 579, 610, 612, 641, 645])
+    {
         for row in [0, 2] {
             cases.add(&[length as u64, 3, NOWHERE, 0, row], P[0]);
             cases.add(&[length as u64, 3, 0, 1, row], P[SOUND]);
@@ -589,11 +609,17 @@ fn readings(cases: &mut Cases) {
             cases.add_text(room, &text_of(words));
         }
     }
-    for text in special_texts().iter().step_by(4) {
-        cases.add_text(7, text);
+    // Those of the line p are read one and all below.
+    let specials = special_texts().len() - seventh_line_texts().len();
+    for text in special_texts()[..specials].iter().step_by(4) {
+        cases.add_text(ROW_WORDS + 1, text);
     }
-    for (bit, past) in (0..7).flat_map(|bit| [(bit, false), (bit, true)]) {
-        cases.add_text(12, &text_of(&faults(1 << bit, past)));
+    for (bit, past) in (0..FAULTS).flat_map(|bit| [(bit, false), (bit, true)]) {
+        let mut words = faults(1 << bit, past);
+        words
+            .iter_mut()
+            .for_each(|word| *word = (*word).min(99_999));
+        cases.add_text(2 * ROW_WORDS, &text_of(&words));
     }
     for draw in [good_text, damaged_text] {
         for _ in 0..30 {
@@ -603,6 +629,7 @@ fn readings(cases: &mut Cases) {
             cases.add_text(room, &text);
         }
     }
+    red::readings(cases);
 }
 
 fn writings(cases: &mut Cases) {
@@ -616,11 +643,11 @@ fn writings(cases: &mut Cases) {
             cases.add(&[room as u64], &words);
         }
     }
-    for length in 0..=13 {
+    for length in 0..=15 {
         cases.add(&[length as u64 % 2], &rows_of(4)[..length]);
     }
     cases.add(&[0], &rows_of(33));
-    for set in 0..128 {
+    for set in 0..1 << FAULTS {
         cases.add(&[u64::from(set % 2)], &faults(set, set % 3 == 0));
     }
     for _ in 0..40 {
@@ -645,4 +672,5 @@ fn reports(cases: &mut Cases) {
         let room = report(&input).len() + cases.rng.index(3);
         cases.add_text(room, &input);
     }
+    red::reports(cases);
 }
