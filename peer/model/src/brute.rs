@@ -202,7 +202,7 @@ pub fn read(text: &[u8]) -> Answer {
 }
 
 /// Bytes of a text whose every length is tried by [`read_into`].
-const SHORT: usize = 80;
+const SHORT: usize = 90;
 
 /// The answer of a reader into a lent room, and the room as it leaves it: the
 /// place by every length where the text is short, by halves where it is not.

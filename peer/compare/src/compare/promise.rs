@@ -2,18 +2,19 @@
 //! beside what its own dispatcher does, tick by tick.
 //!
 //! The trace is read off the states that it hands back. What the trace must show
-//! is judged by the second program's promises.
+//! is judged by the second program's promises; the tables are mixed.
 
 use peer::answer::{refusal, Answer};
 use peer::dispatch::{from_words, Row, State, STATE_WORDS};
 use peer::gen::{loaded_table, tiny_table};
+use peer::pattern::RED;
 use peer::promise::{judge, Kept, Trace};
 use peer::table::{Table, TaskRow, ROWS_MAX};
 
 use super::held::kept_true;
 use super::Comparison;
 use crate::course::{shown, Compared, Course, Difference};
-use crate::draw::{limit_pair, short_cycle_pair, LimitPair, Shape};
+use crate::draw::{apart, limit_pair, short_cycle_pair, LimitPair, Shape};
 use crate::ffi;
 
 pub const ALL: &[Comparison] = &[
@@ -42,16 +43,33 @@ const LARGE: u32 = 10;
 /// Ticks that an admitted table is run for where its cycle is long.
 const TICKS: u32 = 1_000;
 
+/// What was looked at in all tables together.
+#[derive(Debug, Default)]
+struct Seen {
+    kept: Kept,
+    /// Tables turned down, and admitted ones, with a deeply-red row whose even pattern
+    /// is another.
+    red: [u32; 2],
+}
+
+impl Seen {
+    fn add(&mut self, kept: Kept, rows: &[TaskRow]) {
+        self.kept.mandatory_jobs += kept.mandatory_jobs;
+        self.kept.optional_jobs += kept.optional_jobs;
+        self.kept.windows += kept.windows;
+        let red = |row: &TaskRow| row.p == RED && apart(row.m, row.k);
+        self.red[usize::from(kept.admitted)] += u32::from(rows.iter().any(red));
+    }
+}
+
 /// One table: the verdict, the trace, and whether they go together. The case is
 /// counted under the verdict, and what was looked at is added up.
-fn same_promise(course: &mut Course, words: &[u32], all: &mut Kept) -> Compared {
+fn same_promise(course: &mut Course, words: &[u32], all: &mut Seen) -> Compared {
     let mut responses = [0; ROWS_MAX];
     let verdict = ffi::verdict(words, &mut responses);
     match kept(words, verdict, &responses) {
-        Ok(kept) => {
-            all.mandatory_jobs += kept.mandatory_jobs;
-            all.optional_jobs += kept.optional_jobs;
-            all.windows += kept.windows;
+        Ok((kept, table)) => {
+            all.add(kept, table.rows());
             course.settle(verdict, true, String::new)
         }
         Err(fault) => course.settle(verdict, false, || {
@@ -61,23 +79,29 @@ fn same_promise(course: &mut Course, words: &[u32], all: &mut Kept) -> Compared 
     }
 }
 
-/// A comparison that looked at no job of one kind, or at no whole window, says
-/// nothing about them.
-fn looked_at(all: &Kept) -> Compared {
-    if all.mandatory_jobs > 0 && all.optional_jobs > 0 && all.windows > 0 {
+/// A comparison that looked at no job of one kind, at no whole window, or at no
+/// deeply-red row, says nothing about them.
+fn looked_at(all: &Seen) -> Compared {
+    let Seen { kept, red } = all;
+    let jobs = kept.mandatory_jobs > 0 && kept.optional_jobs > 0;
+    if jobs && kept.windows > 0 && !red.contains(&0) {
         return Ok(());
     }
     Err(Difference(format!("too little was looked at: {all:?}")))
 }
 
-fn kept(words: &[u32], verdict: Answer, responses: &[u32; ROWS_MAX]) -> Result<Kept, String> {
+fn kept(
+    words: &[u32],
+    verdict: Answer,
+    responses: &[u32; ROWS_MAX],
+) -> Result<(Kept, Table), String> {
     let table = Table::of(words).map_err(|answer| format!("no table: {}", shown(answer)))?;
     let ticks = ticks_for(table.rows(), verdict);
     let trace = traced(words, ticks, verdict.is_accepted())?;
     let kept = judge(&table, &trace, verdict, responses)?;
     match kept.mandatory_jobs {
         0 => Err("no mandatory job was looked at".to_string()),
-        _ => Ok(kept),
+        _ => Ok((kept, table)),
     }
 }
 
@@ -210,14 +234,14 @@ fn unbroken(state: &State) -> Result<(), String> {
 }
 
 /// Both tables of a pair.
-fn same_pair(course: &mut Course, pair: &LimitPair, all: &mut Kept) -> Compared {
+fn same_pair(course: &mut Course, pair: &LimitPair, all: &mut Seen) -> Compared {
     same_promise(course, &pair.within, all)?;
     same_promise(course, &pair.past, all)
 }
 
 /// Admitted tables over several whole cycles, and the tables just past them.
 fn cycles(course: &mut Course) -> Compared {
-    let mut all = Kept::default();
+    let mut all = Seen::default();
     for _ in 0..CYCLES {
         let rows = 1 + course.rng.index(4);
         let pair = short_cycle_pair(&mut course.rng, rows);
@@ -228,7 +252,7 @@ fn cycles(course: &mut Course) -> Compared {
 
 /// Tables near full load, and tiny ones.
 fn drawn(course: &mut Course) -> Compared {
-    let mut all = Kept::default();
+    let mut all = Seen::default();
     for _ in 0..DRAWN {
         let rng = &mut course.rng;
         let words = match rng.below(4) {
@@ -243,7 +267,7 @@ fn drawn(course: &mut Course) -> Compared {
 /// Tables that one unit of work more makes unschedulable, and those with it; few
 /// rows and short periods, so that long patterns come round.
 fn limit(course: &mut Course) -> Compared {
-    let mut all = Kept::default();
+    let mut all = Seen::default();
     for _ in 0..LIMITS {
         let rng = &mut course.rng;
         let (few, any) = (1 + rng.index(4), 1 + rng.index(ROWS_MAX));
@@ -268,7 +292,7 @@ fn large(course: &mut Course) -> Compared {
             t_high: 60_000,
         };
         let pair = limit_pair(&mut course.rng, shape);
-        same_pair(course, &pair, &mut Kept::default())?;
+        same_pair(course, &pair, &mut Seen::default())?;
     }
     Ok(())
 }
