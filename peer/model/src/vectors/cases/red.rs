@@ -1,7 +1,10 @@
 //! Cases of document 02, 3/14: p in and out of its range, deeply-red rows beside even
 //! ones, and texts with a line `p=`.
 
-use super::{rows_of, state_at, verdict_rooms, word_at, Cases, NOWHERE};
+use super::counts::word_at;
+use super::states::{state_at, NOWHERE};
+use super::tables::verdict_rooms;
+use super::{rows_of, Cases};
 use crate::dispatch::{HEAD_WORDS, P, SAVED_ROW_WORDS, STATE_WORDS};
 use crate::gen::{draw_patterns, loaded_table, seventh_line_texts, six_words_a_row, tiny_table};
 use crate::pattern::{EVEN, RED};
