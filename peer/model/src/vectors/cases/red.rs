@@ -56,8 +56,8 @@ const PAIRS: [(u32, u32); 12] = [
     (64, 64),
 ];
 
-/// Rows of one tick, the first always in the way of the others. Their patterns are
-/// even and deeply-red in every order.
+/// Three rows, each of a pair (m,k) whose two patterns are apart; a bit of `patterns`
+/// for the p of each, bit 0 for row 0.
 fn mixed(patterns: u32) -> Vec<u32> {
     let p = |row: u32| patterns >> row & 1;
     [
