@@ -5,6 +5,7 @@ mod dispatch;
 mod held;
 mod pattern;
 mod promise;
+mod red;
 mod report;
 mod table;
 mod text;
@@ -61,6 +62,7 @@ pub fn all() -> impl Iterator<Item = &'static Comparison> {
         counts::ALL,
         held::ALL,
         promise::ALL,
+        red::ALL,
         text::ALL,
         report::ALL,
     ];

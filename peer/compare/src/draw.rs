@@ -6,12 +6,12 @@ mod tables;
 mod texts;
 
 pub use limit::{
-    any_shape, full_table, limit_pair, short_cycle_pair, slow_table, LimitPair, Shape,
+    any_shape, full_table, limit_pair, short_cycle_pair, slow_table, LimitPair, Patterns, Shape,
 };
 pub use states::{
     every_bit, followed, row_counts, state_lengths, state_room, state_room_of, ticks,
 };
-pub use tables::{any_table, damaged, faults_in, off_six, rubbish, run_table, sound, FAULTS};
+pub use tables::{any_table, damaged, faults_in, off_seven, rubbish, run_table, sound, FAULTS};
 pub use texts::{
     any_values, byte_room, byte_room_of, changed, deleted, every_change, inserted, miswritten,
 };
@@ -78,6 +78,12 @@ pub fn any_word(rng: &mut Rng) -> u32 {
         6 => (rng.word(0, u32::MAX) << 16) + rng.word(0, 66),
         _ => rng.word(0, u32::MAX),
     }
+}
+
+/// Whether the even pattern of a pair and its deeply-red one are two: with one mandatory
+/// job, with all but one and with all of them they are the same.
+pub fn apart(m: u32, k: u32) -> bool {
+    1 < m && m + 1 < k
 }
 
 /// The length of a room for so much, mostly long enough: on both sides of the

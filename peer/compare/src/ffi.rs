@@ -67,7 +67,7 @@ pub fn verdict(words: &[u32], room: &mut [u32]) -> Answer {
     unsafe { gp_verdict(words.as_ptr(), words.len(), place, length) }.into()
 }
 
-/// The fresh state of a table, laid into the first 611 words of the room.
+/// The fresh state of a table, laid into the first 643 words of the room.
 #[inline]
 pub fn fresh(table: &[u32], room: &mut [u64]) -> Answer {
     let (place, length) = (room.as_mut_ptr(), room.len());

@@ -1,9 +1,10 @@
 //! The shape of every answer, and the table "Refusal numbers".
 
-/// "Refusal numbers": the table of document 01, line by line.
+/// "Refusal numbers": the table of document 01, line by line, and what document 02
+/// adds to it.
 pub mod refusal {
-    /// "words not a multiple of six"
-    pub const NOT_SIX: u64 = 1;
+    /// "words not a multiple of six"; since document 02, 3/14, of seven
+    pub const NOT_SEVEN: u64 = 1;
     /// "no rows"
     pub const NO_ROWS: u64 = 2;
     /// "over 32 rows"
@@ -27,6 +28,8 @@ pub mod refusal {
     pub const STATE: u64 = 14;
     /// "time + n past the clock's end"
     pub const CLOCK: u64 = 15;
+    /// "p above 1" (document 02, 3/14)
+    pub const P: u64 = 16;
 }
 
 /// What a call gives back beside the lent room.
@@ -60,10 +63,10 @@ impl Answer {
     }
 
     /// The row or place "where there is one": the column "also returned" has
-    /// an entry for the numbers 4 to 12 and for no other.
+    /// an entry for the numbers 4 to 12, 16 comes "with its row", and no other has one.
     pub const fn at(self) -> Option<u64> {
         match self.refusal {
-            refusal::ID..=refusal::TEXT_FAULT => Some(self.value),
+            refusal::ID..=refusal::TEXT_FAULT | refusal::P => Some(self.value),
             _ => None,
         }
     }

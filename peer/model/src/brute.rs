@@ -7,11 +7,13 @@
 //! beginning of every one of them is kept in a set. Whether bytes are the
 //! beginning of some text is then asked afresh for each length, line by line.
 //!
-//! [`spare`] does the same for the figure of that name, and [`held`] for the number
-//! of met marks.
+//! [`spare`] does the same for the figure of that name, [`held`] for the number of met
+//! marks, and [`pattern`] and [`verdict`] count jobs where the rules have a formula.
 
 pub mod held;
+pub mod pattern;
 pub mod spare;
+pub mod verdict;
 
 use std::collections::{HashMap, HashSet};
 use std::hash::{BuildHasherDefault, Hasher};
@@ -80,7 +82,7 @@ fn line_ends() -> &'static LineEnds {
 /// The key with its `=` that a line of this number opens with; line 0 is the
 /// first.
 fn opening(number: usize) -> &'static [u8] {
-    let keys: [&[u8]; ROW_WORDS] = [b"id=", b"c=", b"t=", b"d=", b"m=", b"k="];
+    let keys: [&[u8]; ROW_WORDS] = [b"id=", b"c=", b"t=", b"d=", b"m=", b"k=", b"p="];
     match number.checked_sub(1) {
         None => b"rows=",
         Some(after) => keys[after % ROW_WORDS],
@@ -110,13 +112,13 @@ fn rows(text: &[u8]) -> Option<u32> {
 }
 
 /// Lines of a text with this value on the first one: "First `rows=N`, then for
-/// each row the lines id, c, t, d, m, k".
+/// each row the lines id, c, t, d, m, k", and p (document 02, 3/14).
 fn lines_due(rows: u32) -> usize {
     1 + ROW_WORDS * rows as usize
 }
 
 /// Whether the bytes are the beginning of some text of the form: "any value may
-/// stand after `rows=` on the first line", and six lines for each of that many
+/// stand after `rows=` on the first line", and seven lines for each of that many
 /// rows follow it.
 pub fn is_beginning(text: &[u8]) -> bool {
     let due = rows(text).map_or(1, lines_due);
@@ -176,7 +178,7 @@ pub fn words(text: &[u8]) -> Vec<u32> {
 
 /// The words of an accepted text, or the answer of a reader with room enough:
 /// "For text: the first line (12), its value (2, 3), the remaining lines (12),
-/// rows (4 to 10)". The first line's fault is the text's.
+/// rows (4 to 10)", with 16 among the last. The first line's fault is the text's.
 fn accepted(text: &[u8], place: fn(&[u8]) -> Option<usize>) -> Result<Vec<u32>, Answer> {
     match rows(text) {
         Some(0) => return Err(Answer::refused(refusal::NO_ROWS)),
@@ -200,7 +202,7 @@ pub fn read(text: &[u8]) -> Answer {
 }
 
 /// Bytes of a text whose every length is tried by [`read_into`].
-const SHORT: usize = 80;
+const SHORT: usize = 90;
 
 /// The answer of a reader into a lent room, and the room as it leaves it: the
 /// place by every length where the text is short, by halves where it is not.

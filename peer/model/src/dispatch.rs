@@ -1,7 +1,16 @@
-//! "One tick": the state, when it is well formed, and the dispatcher.
+//! "One tick": the state, when it is well formed, and the dispatcher. The same run made
+//! plainly, and the saved form of a state, have modules of their own.
+
+mod plain;
+mod saved;
+
+pub use plain::run_plain;
+pub(crate) use saved::counts;
+pub use saved::{fresh_words, run_words, tick_words, well_formed_words};
+pub use saved::{from_words, to_words};
 
 use crate::answer::{refusal, Answer};
-use crate::pattern;
+use crate::pattern::Pattern;
 use crate::table::{self, Table, TaskRow, ROWS_MAX, ROW_WORDS};
 
 /// "The clock ends at 4,294,967,295."
@@ -10,14 +19,17 @@ pub const CLOCK_END: u32 = u32::MAX;
 /// Words before the rows of a saved state: rows, time, idle.
 pub const HEAD_WORDS: usize = 3;
 
-/// Words of one saved row: id, c, t, d, m, k, wait, place, work, left, kind,
+/// Words of one saved row: id, c, t, d, m, k, p, wait, place, work, left, kind,
 /// window, released, mm, mx, om, ox, broken, held.
-pub const SAVED_ROW_WORDS: usize = 19;
+pub const SAVED_ROW_WORDS: usize = 20;
+
+/// Where p stands in a saved row, the last of its table's words.
+pub const P: usize = ROW_WORDS - 1;
 
 /// Where the number of met marks stands in a saved row, and the window that it is
 /// the number of.
-pub const HELD: usize = 18;
-pub const WINDOW: usize = 11;
+pub const HELD: usize = 19;
+pub const WINDOW: usize = 12;
 
 /// Words of a saved state: always room for 32 rows.
 pub const STATE_WORDS: usize = HEAD_WORDS + ROWS_MAX * SAVED_ROW_WORDS;
@@ -32,6 +44,8 @@ pub struct Row {
     pub d: u32,
     pub m: u32,
     pub k: u32,
+    /// "0 for even, 1 for deeply-red" (document 02, 3/14)
+    pub p: u32,
     /// "ticks until its next release (wait)"
     pub wait: u32,
     /// "the next job's place in its pattern"
@@ -122,6 +136,7 @@ impl Row {
             d: task.d,
             m: task.m,
             k: task.k,
+            p: task.p,
             window: marks(task.k),
             held: task.k,
             ..Row::default()
@@ -136,6 +151,7 @@ impl Row {
             d: self.d,
             m: self.m,
             k: self.k,
+            p: self.p,
         }
     }
 
@@ -206,9 +222,9 @@ pub fn well_formed(state: &State) -> bool {
 /// The state's own table, judged as any other table is.
 fn table_well_formed(rows: &[Row]) -> bool {
     let mut words = [0; ROWS_MAX * ROW_WORDS];
-    let (sixes, _) = words.as_chunks_mut::<ROW_WORDS>();
-    for (six, row) in sixes.iter_mut().zip(rows) {
-        *six = row.task().words();
+    let (sevens, _) = words.as_chunks_mut::<ROW_WORDS>();
+    for (seven, row) in sevens.iter_mut().zip(rows) {
+        *seven = row.task().words();
     }
     table::check(&words[..rows.len() * ROW_WORDS]).is_accepted()
 }
@@ -395,200 +411,18 @@ fn end_of_run(state: &State, n: u32) -> Result<u32, Answer> {
     end.ok_or(Answer::refused(refusal::CLOCK))
 }
 
-/// Each row's word out of the pattern book.
+/// Each row's own pattern, a bit for each place.
 fn patterns_of(rows: &[Row]) -> [u64; ROWS_MAX] {
     let mut patterns = [0; ROWS_MAX];
     for (word, row) in patterns.iter_mut().zip(rows) {
-        *word = pattern::entry(row.m, row.k);
+        let Row { m, k, p, .. } = *row;
+        *word = Pattern { m, k, p }.word();
     }
     patterns
-}
-
-/// The same run, plainly: three loops over the rows in every tick, and nothing
-/// kept beside them but the pattern words.
-pub fn run_plain(state: &mut State, n: u32) -> Answer {
-    let end = match end_of_run(state, n) {
-        Ok(end) => end,
-        Err(answer) => return answer,
-    };
-    let rows = &mut state.row[..state.rows as usize];
-    let patterns = patterns_of(rows);
-    let mut idle = state.idle;
-    for _ in 0..n {
-        release_due(rows, &patterns);
-        let chosen = chosen_of(rows);
-        work_and_settle(rows, chosen);
-        idle += u32::from(chosen.is_none());
-    }
-    state.idle = idle;
-    state.time = end;
-    Answer::accepted(0)
-}
-
-/// Step 1 of a plain tick: "Every row with wait 0 releases its next job".
-#[inline]
-fn release_due(rows: &mut [Row], patterns: &[u64; ROWS_MAX]) {
-    for (row, &pattern) in rows.iter_mut().zip(patterns) {
-        if row.wait == 0 {
-            release(row, pattern);
-        }
-    }
-}
-
-/// Step 2 of a plain tick: "Among live jobs the mandatory one of the highest
-/// row is chosen; if there is none, the optional one of the highest row".
-#[inline]
-fn chosen_of(rows: &[Row]) -> Option<usize> {
-    let mut optional = None;
-    for (at, row) in rows.iter().enumerate() {
-        if row.is_live() {
-            if row.kind == 1 {
-                return Some(at);
-            }
-            optional = optional.or(Some(at));
-        }
-    }
-    optional
-}
-
-/// Steps 3 and 4 of a plain tick: "The chosen job loses one unit of work", every
-/// wait and the ticks left of every live job fall by one, and jobs are settled.
-#[inline]
-fn work_and_settle(rows: &mut [Row], chosen: Option<usize>) {
-    for (at, row) in rows.iter_mut().enumerate() {
-        row.wait -= 1;
-        if row.is_live() {
-            row.left -= 1;
-            if chosen == Some(at) {
-                row.work -= 1;
-            }
-            if row.work == 0 || row.left == 0 {
-                settle(row);
-            }
-        }
-    }
 }
 
 /// One tick, refused as a run of one is: "a tick is defined on each such state
 /// below the clock's end".
 pub fn tick(state: &mut State) -> Answer {
     run(state, 1)
-}
-
-/// The saved form of a state: [rows, time, idle], then 32 rows of 19 words.
-pub fn to_words(state: &State) -> [u64; STATE_WORDS] {
-    let mut words = [0; STATE_WORDS];
-    words[0] = u64::from(state.rows);
-    words[1] = u64::from(state.time);
-    words[2] = u64::from(state.idle);
-    let (saved, _) = words[HEAD_WORDS..].as_chunks_mut::<SAVED_ROW_WORDS>();
-    for (saved, row) in saved.iter_mut().zip(&state.row) {
-        *saved = saved_row(row);
-    }
-    words
-}
-
-fn saved_row(row: &Row) -> [u64; SAVED_ROW_WORDS] {
-    let low = [
-        row.id, row.c, row.t, row.d, row.m, row.k, row.wait, row.place, row.work, row.left,
-        row.kind,
-    ];
-    let mut saved = [0; SAVED_ROW_WORDS];
-    for (word, field) in saved.iter_mut().zip(low) {
-        *word = u64::from(field);
-    }
-    saved[WINDOW] = row.window;
-    saved[WINDOW + 1..HELD].copy_from_slice(&counts(row));
-    saved[HELD] = u64::from(row.held);
-    saved
-}
-
-/// "released jobs, mandatory met and missed, optional met and missed, and broken
-/// windows": the order in which they are saved and printed.
-pub(crate) fn counts(row: &Row) -> [u64; 6] {
-    [row.released, row.mm, row.mx, row.om, row.ox, row.broken].map(u64::from)
-}
-
-/// The state that the words save, or `None` when there is none: a length other
-/// than 611, or a word too large for its field. Well formed or not is another
-/// question.
-pub fn from_words(words: &[u64]) -> Option<State> {
-    let words: &[u64; STATE_WORDS] = words.try_into().ok()?;
-    let mut state = State {
-        rows: u32::try_from(words[0]).ok()?,
-        time: u32::try_from(words[1]).ok()?,
-        idle: u32::try_from(words[2]).ok()?,
-        row: [Row::default(); ROWS_MAX],
-    };
-    let (saved, _) = words[HEAD_WORDS..].as_chunks::<SAVED_ROW_WORDS>();
-    for (row, saved) in state.row.iter_mut().zip(saved) {
-        *row = row_from(saved)?;
-    }
-    Some(state)
-}
-
-fn row_from(saved: &[u64; SAVED_ROW_WORDS]) -> Option<Row> {
-    let field = |at: usize| u32::try_from(saved[at]).ok();
-    Some(Row {
-        id: field(0)?,
-        c: field(1)?,
-        t: field(2)?,
-        d: field(3)?,
-        m: field(4)?,
-        k: field(5)?,
-        wait: field(6)?,
-        place: field(7)?,
-        work: field(8)?,
-        left: field(9)?,
-        kind: field(10)?,
-        window: saved[WINDOW],
-        released: field(12)?,
-        mm: field(13)?,
-        mx: field(14)?,
-        om: field(15)?,
-        ox: field(16)?,
-        broken: field(17)?,
-        held: field(HELD)?,
-    })
-}
-
-/// 14, or accepted with value 0. A word too large for its field is past the
-/// bound that the document sets for it, every such bound being below 2^32.
-pub fn well_formed_words(words: &[u64]) -> Answer {
-    match from_words(words) {
-        Some(state) if well_formed(&state) => Answer::accepted(0),
-        _ => Answer::refused(refusal::STATE),
-    }
-}
-
-/// A run on a saved state: "a refused run hands back the state it got".
-pub fn run_words(words: &mut [u64], n: u32) -> Answer {
-    let Some(mut state) = from_words(words) else {
-        return Answer::refused(refusal::STATE);
-    };
-    let answer = run(&mut state, n);
-    if answer.is_accepted() {
-        // The length is 611: from_words has taken these words.
-        words.copy_from_slice(&to_words(&state));
-    }
-    answer
-}
-
-/// One tick on a saved state, refused as a run of one is.
-pub fn tick_words(words: &mut [u64]) -> Answer {
-    run_words(words, 1)
-}
-
-/// The fresh state of a table, saved into the first 611 words of the lent room.
-/// The table's refusals come first, then 13. The value is the number of rows.
-pub fn fresh_words(table: &[u32], room: &mut [u64]) -> Answer {
-    let state = match fresh(table) {
-        Ok(state) => state,
-        Err(answer) => return answer,
-    };
-    let Some(room) = room.get_mut(..STATE_WORDS) else {
-        return Answer::refused(refusal::ROOM_TOO_SHORT);
-    };
-    room.copy_from_slice(&to_words(&state));
-    Answer::accepted(u64::from(state.rows))
 }

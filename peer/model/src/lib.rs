@@ -1,6 +1,6 @@
 //! The second program: the rules of document 01, and of document 02 what has
-//! been taken up (1/14 and 2/14), written from those documents alone, so that its answers
-//! can be laid beside the first program's.
+//! been taken up (1/14 to 3/14), written from those documents alone, so that its
+//! answers can be laid beside the first program's.
 //!
 //! Everything here is total. Each function gives an answer on every input and
 //! none of them panics; what the document refuses comes back as a refusal

@@ -1,4 +1,5 @@
-//! "Patterns": which jobs are mandatory, and the pattern book.
+//! "Patterns": which jobs are mandatory, by the even rule with its book and by the
+//! deeply-red one.
 
 use crate::answer::{refusal, Answer};
 
@@ -7,6 +8,10 @@ pub const K_MAX: u32 = 64;
 
 /// "one 64-bit word for each pair (m,k), 2,080 words in all"
 pub const PAIRS: usize = 2080;
+
+/// p, "0 for even, 1 for deeply-red" (document 02, 3/14).
+pub const EVEN: u32 = 0;
+pub const RED: u32 = 1;
 
 /// "k 1..64; m 1..k": the pairs that have a pattern.
 pub const fn is_pair(m: u32, k: u32) -> bool {
@@ -92,8 +97,53 @@ pub fn entry(m: u32, k: u32) -> u64 {
     place(m, k).map_or(0, |at| BOOK[at])
 }
 
+/// A row's own pattern: m, k and p.
+#[derive(Clone, Copy, Debug, PartialEq, Eq)]
+pub struct Pattern {
+    pub m: u32,
+    pub k: u32,
+    pub p: u32,
+}
+
+impl Pattern {
+    /// The mandatory ones among the first q jobs: of an even pattern as [`count`] has
+    /// it, of a deeply-red one "floor(q / k) x m plus the smaller of q mod k and m".
+    ///
+    /// A pair outside its range, and a p that is neither, have no mandatory jobs: 0.
+    pub const fn count(self, q: u32) -> u64 {
+        let Pattern { m, k, p } = self;
+        match p {
+            EVEN => count(m, k, q),
+            RED if is_pair(m, k) => {
+                let (whole, rest) = (q / k, q % k);
+                let last = if rest < m { rest } else { m };
+                whole as u64 * m as u64 + last as u64
+            }
+            _ => 0,
+        }
+    }
+
+    /// Bit a, for a below k, is set exactly when job a is mandatory: the book's word,
+    /// or m bits in a row. 0 where there is no such pattern.
+    pub fn word(self) -> u64 {
+        let Pattern { m, k, p } = self;
+        match p {
+            EVEN => entry(m, k),
+            RED if is_pair(m, k) => u64::MAX >> (K_MAX - m),
+            _ => 0,
+        }
+    }
+
+    /// Whether the job is mandatory. The pattern of k jobs comes again and again.
+    pub fn is_mandatory(self, job: u32) -> bool {
+        let place = job.checked_rem(self.k);
+        place.is_some_and(|place| self.word() >> (place % K_MAX) & 1 == 1)
+    }
+}
+
 /// "A question about one job takes m, k and any 32-bit job number." "For a
-/// question about one job: 8, 9, each with row 0."
+/// question about one job: 8, 9, each with row 0." "The job question keeps m, k and
+/// the even rule" (document 02, 3/14).
 ///
 /// The value is 1 for a mandatory job and 0 for an optional one.
 pub fn job(m: u32, k: u32, a: u32) -> Answer {

@@ -3,11 +3,11 @@
 //! A trace says for each tick which row was chosen, or none. From it and the
 //! table alone the fate of every job is worked out again: job a of a row is
 //! released at tick a x T, lives for D ticks at most and needs C of the ticks
-//! given to its row. Then the promises are looked for in those fates.
+//! given to its row; its kind is its row's own pattern's. Then the promises are looked for in those fates.
 
 use crate::answer::{refusal, Answer};
+use crate::brute::pattern::is_mandatory;
 use crate::dispatch::{self, State};
-use crate::pattern;
 use crate::table::{Table, TaskRow, ROWS_MAX};
 use crate::verdict;
 
@@ -132,7 +132,7 @@ fn idle_agrees(trace: &Trace) -> Result<(), String> {
 fn counts_agree(task: &TaskRow, at: usize, fates: &[Fate], state: &State) -> Result<(), String> {
     let mut counts = [0u32; 4];
     for (job, fate) in fates.iter().enumerate() {
-        let optional = 2 * usize::from(!pattern::mandatory(task.m, task.k, job as u32));
+        let optional = 2 * usize::from(!is_mandatory(task.pattern(), job as u32));
         match fate {
             Fate::Met(_) => counts[optional] += 1,
             Fate::Missed => counts[optional + 1] += 1,
@@ -176,7 +176,7 @@ fn mandatory_in_time(
     kept: &mut Kept,
 ) -> Result<(), String> {
     for (job, fate) in fates.iter().enumerate() {
-        if !pattern::mandatory(task.m, task.k, job as u32) {
+        if !is_mandatory(task.pattern(), job as u32) {
             kept.optional_jobs += 1;
             continue;
         }

@@ -1,13 +1,14 @@
-//! "A task table": six words to a row, and when the words are well formed.
+//! "A task table": seven words to a row, and when the words are well formed.
 
 use crate::answer::{refusal, Answer};
-use crate::pattern::K_MAX;
+use crate::pattern::{Pattern, K_MAX, RED};
 
 /// "It has 1 to 32 rows."
 pub const ROWS_MAX: usize = 32;
 
-/// "six to a row: id, C, T, D, m, k"
-pub const ROW_WORDS: usize = 6;
+/// "six to a row: id, C, T, D, m, k", and "A row gains a seventh word p" (document
+/// 02, 3/14).
+pub const ROW_WORDS: usize = 7;
 
 /// The upper end of id, T and C: 65535.
 pub const WORD_MAX: u32 = 65_535;
@@ -21,20 +22,37 @@ pub struct TaskRow {
     pub d: u32,
     pub m: u32,
     pub k: u32,
+    /// "0 for even, 1 for deeply-red"
+    pub p: u32,
 }
 
 impl TaskRow {
-    pub fn of(six: &[u32; ROW_WORDS]) -> TaskRow {
-        let [id, c, t, d, m, k] = *six;
-        TaskRow { id, c, t, d, m, k }
+    pub fn of(seven: &[u32; ROW_WORDS]) -> TaskRow {
+        let [id, c, t, d, m, k, p] = *seven;
+        TaskRow {
+            id,
+            c,
+            t,
+            d,
+            m,
+            k,
+            p,
+        }
     }
 
     pub fn words(&self) -> [u32; ROW_WORDS] {
-        [self.id, self.c, self.t, self.d, self.m, self.k]
+        [self.id, self.c, self.t, self.d, self.m, self.k, self.p]
     }
 
-    /// The first of 4 to 9 that applies to the row by itself. "C above D is
-    /// well formed; the verdict turns it down", so C is held to its range only.
+    /// The row's own pattern.
+    pub fn pattern(&self) -> Pattern {
+        let TaskRow { m, k, p, .. } = *self;
+        Pattern { m, k, p }
+    }
+
+    /// The first of 4 to 9 that applies to the row by itself, and 16 after them. "C
+    /// above D is well formed; the verdict turns it down", so C is held to its range
+    /// only.
     fn out_of_range(&self) -> Option<u64> {
         let ranges = [
             (refusal::ID, self.id, WORD_MAX),
@@ -47,7 +65,8 @@ impl TaskRow {
         let outside = ranges
             .iter()
             .find(|(_, word, end)| !(1..=*end).contains(word));
-        outside.map(|(number, _, _)| *number)
+        let number = outside.map(|(number, _, _)| *number);
+        number.or((self.p > RED).then_some(refusal::P))
     }
 }
 
@@ -59,21 +78,22 @@ pub struct Table {
 }
 
 impl Table {
-    /// "for words 1, 2, 3, then row by row 4 to 10 in number order"
+    /// "for words 1, 2, 3, then row by row 4 to 10 in number order", where 16 "comes
+    /// after 9 and before 10".
     pub fn of(words: &[u32]) -> Result<Table, Answer> {
-        let (sixes, rest) = words.as_chunks::<ROW_WORDS>();
+        let (sevens, rest) = words.as_chunks::<ROW_WORDS>();
         if !rest.is_empty() {
-            return Err(Answer::refused(refusal::NOT_SIX));
+            return Err(Answer::refused(refusal::NOT_SEVEN));
         }
-        if sixes.is_empty() {
+        if sevens.is_empty() {
             return Err(Answer::refused(refusal::NO_ROWS));
         }
-        if sixes.len() > ROWS_MAX {
+        if sevens.len() > ROWS_MAX {
             return Err(Answer::refused(refusal::OVER_32_ROWS));
         }
-        let mut rows: Vec<TaskRow> = Vec::with_capacity(sixes.len());
-        for six in sixes {
-            let row = TaskRow::of(six);
+        let mut rows: Vec<TaskRow> = Vec::with_capacity(sevens.len());
+        for seven in sevens {
+            let row = TaskRow::of(seven);
             if let Some(number) = fault(&row, &rows) {
                 return Err(Answer::refused_at(number, rows.len() as u64));
             }
@@ -87,7 +107,7 @@ impl Table {
     }
 }
 
-/// The first of 4 to 10 that applies to a row, given the rows before it.
+/// The first of 4 to 10 and 16 that applies to a row, given the rows before it.
 fn fault(row: &TaskRow, earlier: &[TaskRow]) -> Option<u64> {
     row.out_of_range().or_else(|| {
         let repeated = earlier.iter().any(|other| other.id == row.id);

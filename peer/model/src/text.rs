@@ -3,11 +3,13 @@
 use crate::answer::{refusal, Answer};
 use crate::table::{self, Table, ROWS_MAX, ROW_WORDS};
 
-/// "The longest accepted text is 1,384 bytes."
-pub const TEXT_MAX: usize = 1384;
+/// The longest accepted text: document 01's 1,384 bytes, and a line `p=` of four
+/// bytes for each of 32 rows.
+pub const TEXT_MAX: usize = 1512;
 
-/// "for each row the lines id, c, t, d, m, k in that order"
-pub const KEYS: [&str; ROW_WORDS] = ["id", "c", "t", "d", "m", "k"];
+/// "for each row the lines id, c, t, d, m, k in that order", "and a seventh text line
+/// `p=`" (document 02, 3/14).
+pub const KEYS: [&str; ROW_WORDS] = ["id", "c", "t", "d", "m", "k", "p"];
 
 /// "The text reader holds the lent text and a place in it, and gives one value
 /// a call".
@@ -88,7 +90,7 @@ fn fault(place: usize) -> Answer {
 
 /// The words of the task text that the reader still has before it: "For text:
 /// the first line (12), its value (2, 3), the remaining lines (12), rows (4 to
-/// 10)". The first line's value is looked at only once the line is whole.
+/// 10)", with 16 among the last. The first line's value is looked at only once the line is whole.
 pub fn read_words(reader: &mut Reader) -> Result<Vec<u32>, Answer> {
     let rows = reader.value("rows").map_err(fault)? as usize;
     if rows == 0 {
@@ -108,7 +110,7 @@ pub fn read_words(reader: &mut Reader) -> Result<Vec<u32>, Answer> {
     Ok(words)
 }
 
-/// Reads a task text into the lent words, six to a row; the last refusal that
+/// Reads a task text into the lent words, seven to a row; the last refusal that
 /// can come is 13. The value is the number of rows.
 pub fn read(text: &[u8], room: &mut [u32]) -> Answer {
     let words = match read_words(&mut Reader::new(text)) {
@@ -128,16 +130,16 @@ pub fn line(out: &mut Vec<u8>, key: &str, value: u64) {
 }
 
 /// "key=value lines, each ended by LF. First `rows=N`, then for each row the
-/// lines id, c, t, d, m, k in that order, nothing after."
+/// lines id, c, t, d, m, k in that order, nothing after", with the line p after k.
 ///
 /// The words need not be well formed, so that texts of faulty tables can be
 /// made too; words after the last whole row are left out.
 pub fn text_of(words: &[u32]) -> Vec<u8> {
     let mut out = Vec::new();
-    let (sixes, _) = words.as_chunks::<ROW_WORDS>();
-    line(&mut out, "rows", sixes.len() as u64);
-    for six in sixes {
-        for (key, word) in KEYS.iter().zip(six) {
+    let (sevens, _) = words.as_chunks::<ROW_WORDS>();
+    line(&mut out, "rows", sevens.len() as u64);
+    for seven in sevens {
+        for (key, word) in KEYS.iter().zip(seven) {
             line(&mut out, key, u64::from(*word));
         }
     }
@@ -206,18 +208,18 @@ pub fn write_plain(words: &[u32], room: &mut [u8]) -> Answer {
     if !answer.is_accepted() {
         return answer;
     }
-    let (sixes, _) = words.as_chunks::<ROW_WORDS>();
+    let (sevens, _) = words.as_chunks::<ROW_WORDS>();
     let keys: usize = KEYS.iter().map(|key| key.len() + 2).sum();
     let values: usize = words.iter().map(|&word| digits(word)).sum();
-    let first = "rows=\n".len() + digits(sixes.len() as u32);
-    let length = first + sixes.len() * keys + values;
+    let first = "rows=\n".len() + digits(sevens.len() as u32);
+    let length = first + sevens.len() * keys + values;
     let Some(room) = room.get_mut(..length) else {
         return Answer::refused(refusal::ROOM_TOO_SHORT);
     };
     let mut laid = Laid { room, length: 0 };
-    laid.line("rows", sixes.len() as u32);
-    for six in sixes {
-        for (key, word) in KEYS.iter().zip(six) {
+    laid.line("rows", sevens.len() as u32);
+    for seven in sevens {
+        for (key, word) in KEYS.iter().zip(seven) {
             laid.line(key, *word);
         }
     }

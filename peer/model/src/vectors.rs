@@ -38,7 +38,7 @@ pub const BYTE_BEFORE: u8 = 255;
 
 /// The longest rooms a case may ask for: response times, a state, counts, bytes.
 pub const ROOM_MAX: usize = 64;
-pub const STATE_ROOM_MAX: usize = 640;
+pub const STATE_ROOM_MAX: usize = 672;
 pub const COUNT_ROOM_MAX: usize = 16;
 pub const BYTE_ROOM_MAX: usize = 4_096;
 

@@ -1,12 +1,12 @@
 //! "Verdict": the load, the response times, admitted or not.
 
 use crate::answer::{refusal, Answer};
-use crate::pattern;
 use crate::table::Table;
 
 /// "For row i and a tick count t of at least 1, the load is C of row i plus,
 /// for every row j above it, C of j times ceil(q x m / k), with q = ceil(t / T)
-/// and m, k, T of row j."
+/// and m, k, T of row j." "the verdict uses the count of each row's own pattern"
+/// (document 02, 3/14): ceil(q x m / k) is an even one's.
 ///
 /// The count is at most q, below 2^32, and C below 2^16, so 32 rows stay below
 /// 2^53. A row that the table does not have carries no load.
@@ -17,7 +17,7 @@ pub fn load(table: &Table, row: usize, t: u32) -> u64 {
     };
     let above = rows[..row].iter().map(|j| {
         let q = t.div_ceil(j.t);
-        u64::from(j.c) * pattern::count(j.m, j.k, q)
+        u64::from(j.c) * j.pattern().count(q)
     });
     u64::from(own.c) + above.sum::<u64>()
 }
@@ -61,9 +61,13 @@ pub fn verdict_leaping(words: &[u32], room: &mut [u32]) -> Answer {
 }
 
 /// "for words 1, 2, 3, then row by row 4 to 10 in number order, then 13, then
-/// 11"; "Rows are tried from row 0". The room is written only when every row
+/// 11", where 16 stands between 9 and 10; "Rows are tried from row 0". The room is written only when every row
 /// has fitted: "No refusal alters a lent word or byte".
-fn judged(words: &[u32], room: &mut [u32], fit: fn(&Table, usize) -> Option<u32>) -> Answer {
+pub(crate) fn judged(
+    words: &[u32],
+    room: &mut [u32],
+    fit: fn(&Table, usize) -> Option<u32>,
+) -> Answer {
     let table = match Table::of(words) {
         Ok(table) => table,
         Err(answer) => return answer,

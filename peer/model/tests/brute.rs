@@ -7,7 +7,7 @@ use peer::rng::Rng;
 use peer::text::text_of;
 
 /// Beginnings of texts, the texts themselves among them.
-const BEGIN: [&[u8]; 22] = [
+const BEGIN: [&[u8]; 25] = [
     b"",
     b"r",
     b"rows",
@@ -18,22 +18,25 @@ const BEGIN: [&[u8]; 22] = [
     b"rows=10000",
     b"rows=99999",
     b"rows=99999\n",
-    b"rows=99999\nid=0\nc=0\nt=0\nd=0\nm=0\nk=0\nid=",
+    b"rows=99999\nid=0\nc=0\nt=0\nd=0\nm=0\nk=0\np=0\nid=",
     b"rows=33\ni",
     b"rows=1\n",
     b"rows=1\nid=0",
     b"rows=1\nid=0\nc=99999",
     b"rows=1\nid=0\nc=99999\nt=",
-    b"rows=1\nid=0\nc=0\nt=0\nd=0\nm=0\nk=0",
+    b"rows=1\nid=0\nc=0\nt=0\nd=0\nm=0\nk=0\np=0",
+    b"rows=1\nid=0\nc=0\nt=0\nd=0\nm=0\nk=0\np=0\n",
+    b"rows=2\nid=0\nc=0\nt=0\nd=0\nm=0\nk=0\np=0\n",
+    b"rows=2\nid=0\nc=0\nt=0\nd=0\nm=0\nk=0\np=0\ni",
     b"rows=1\nid=0\nc=0\nt=0\nd=0\nm=0\nk=0\n",
-    b"rows=2\nid=0\nc=0\nt=0\nd=0\nm=0\nk=0\n",
-    b"rows=2\nid=0\nc=0\nt=0\nd=0\nm=0\nk=0\ni",
-    b"rows=2\nid=7\nc=0\nt=0\nd=0\nm=0\nk=0\nid=7\nc",
-    b"rows=2\nid=7\nc=0\nt=0\nd=0\nm=0\nk=0\nid=7\nc=0\nt=0\nd=0\nm=0\nk=0\n",
+    b"rows=1\nid=0\nc=0\nt=0\nd=0\nm=0\nk=0\np",
+    b"rows=1\nid=0\nc=0\nt=0\nd=0\nm=0\nk=0\np=65536",
+    b"rows=2\nid=7\nc=0\nt=0\nd=0\nm=0\nk=0\np=0\nid=7\nc",
+    b"rows=2\nid=7\nc=0\nt=0\nd=0\nm=0\nk=0\np=0\nid=7\nc=0\nt=0\nd=0\nm=0\nk=0\np=0\n",
 ];
 
 /// Bytes that begin no text, and how many of them still begin one.
-const BEGIN_NONE: [(&[u8], usize); 44] = [
+const BEGIN_NONE: [(&[u8], usize); 52] = [
     (b"\n", 0),
     (b"\0", 0),
     (b"\xff", 0),
@@ -71,21 +74,29 @@ const BEGIN_NONE: [(&[u8], usize); 44] = [
     (b"rows=1\nid=00\n", 11),
     (b"rows=1\nid=65535\nc=655350\n", 23),
     (b"rows=99999\nid=1\nc=1\nt=1\nd=1\nk=1\n", 28),
+    (b"rows=1\nid=0\nc=0\nt=0\nd=0\nm=0\nk=0\np=0\n\n", 36),
+    (b"rows=1\nid=0\nc=0\nt=0\nd=0\nm=0\nk=0\np=0\n\0", 36),
+    (b"rows=1\nid=0\nc=0\nt=0\nd=0\nm=0\nk=0\np=0\nid=1\n", 36),
+    (b"rows=1\nid=0\nc=0\nt=0\nd=0\nm=0\nk=0\np=0\r\n", 35),
+    (b"rows=2\nid=0\nc=0\nt=0\nd=0\nm=0\nk=0\np=0\n\n", 36),
+    (b"rows=2\nid=0\nc=0\nt=0\nd=0\nm=0\nk=0\np=0\nrows=1\n", 36),
+    (b"rows=2\nid=0\nc=0\nt=0\nd=0\nm=0\nk=0\np=0\nc=0\n", 36),
+    (b"rows=2\nid=0\nc=0\nt=0\nd=0\nm=0\nk=0\nid=1\n", 32),
     (b"rows=1\nid=0\nc=0\nt=0\nd=0\nm=0\nk=0\n\n", 32),
-    (b"rows=1\nid=0\nc=0\nt=0\nd=0\nm=0\nk=0\n\0", 32),
-    (b"rows=1\nid=0\nc=0\nt=0\nd=0\nm=0\nk=0\nid=1\n", 32),
-    (b"rows=1\nid=0\nc=0\nt=0\nd=0\nm=0\nk=0\r\n", 31),
-    (b"rows=2\nid=0\nc=0\nt=0\nd=0\nm=0\nk=0\n\n", 32),
-    (b"rows=2\nid=0\nc=0\nt=0\nd=0\nm=0\nk=0\nrows=1\n", 32),
-    (b"rows=2\nid=0\nc=0\nt=0\nd=0\nm=0\nk=0\nc=0\n", 32),
+    (b"rows=1\nid=0\nc=0\nt=0\nd=0\nm=0\nk=0\nP=0\n", 32),
+    (b"rows=1\nid=0\nc=0\nt=0\nd=0\nm=0\np=0\nk=0\n", 28),
+    (b"rows=1\np=0\nid=0\nc=0\nt=0\nd=0\nm=0\nk=0\n", 7),
+    (b"rows=1\nid=0\nc=0\nt=0\nd=0\nm=0\nk=0\np=\n", 34),
+    (b"rows=1\nid=0\nc=0\nt=0\nd=0\nm=0\nk=0\np=01\n", 35),
+    (b"rows=2\nid=0\nc=0\nt=0\nd=0\nm=0\nk=0\np=0\np=0\n", 36),
 ];
 
 /// Whole texts of the form, in range or not.
 const TEXTS: [&[u8]; 4] = [
     b"rows=0\n",
-    b"rows=1\nid=0\nc=0\nt=0\nd=0\nm=0\nk=0\n",
-    b"rows=1\nid=99999\nc=99999\nt=99999\nd=99999\nm=99999\nk=99999\n",
-    b"rows=2\nid=7\nc=0\nt=0\nd=0\nm=0\nk=0\nid=7\nc=0\nt=0\nd=0\nm=0\nk=0\n",
+    b"rows=1\nid=0\nc=0\nt=0\nd=0\nm=0\nk=0\np=0\n",
+    b"rows=1\nid=99999\nc=99999\nt=99999\nd=99999\nm=99999\nk=99999\np=99999\n",
+    b"rows=2\nid=7\nc=0\nt=0\nd=0\nm=0\nk=0\np=0\nid=7\nc=0\nt=0\nd=0\nm=0\nk=0\np=0\n",
 ];
 
 fn shown(text: &[u8]) -> String {
@@ -150,15 +161,15 @@ fn places_by_hand() {
 #[test]
 fn words_by_hand() {
     assert_eq!(words(TEXTS[0]), []);
-    assert_eq!(words(TEXTS[1]), [0; 6]);
-    assert_eq!(words(TEXTS[2]), [99_999; 6]);
-    let text = b"rows=1\nid=9\nc=1\nt=20\nd=10\nm=3\nk=64\n";
-    assert_eq!(words(text), [9, 1, 20, 10, 3, 64]);
-    for (length, refusal, value) in [(0, 13, 0), (5, 13, 0), (6, 0, 1), (7, 0, 1)] {
+    assert_eq!(words(TEXTS[1]), [0; 7]);
+    assert_eq!(words(TEXTS[2]), [99_999; 7]);
+    let text = b"rows=1\nid=9\nc=1\nt=20\nd=10\nm=3\nk=64\np=1\n";
+    assert_eq!(words(text), [9, 1, 20, 10, 3, 64, 1]);
+    for (length, refusal, value) in [(0, 13, 0), (6, 13, 0), (7, 0, 1), (8, 0, 1)] {
         let mut room = vec![77; length];
         let answer = read_into(text, &mut room);
         assert_eq!((answer.refusal, answer.value), (refusal, value));
-        let filled = 6 * value as usize;
+        let filled = 7 * value as usize;
         assert_eq!(room[..filled], words(text)[..filled]);
         assert!(room[filled..].iter().all(|&word| word == 77));
     }
@@ -190,7 +201,7 @@ fn with_every_value(lines: &[String], at: usize) -> Vec<Vec<u8>> {
 /// it are fixed by it.
 #[test]
 fn every_byte_after_every_beginning() {
-    let text = "rows=2\nid=10\nc=9\nt=65535\nd=100\nm=0\nk=1\nid=2\nc=0\nt=1\nd=1\nm=1234\nk=64\n";
+    let text = "rows=2\nid=10\nc=9\nt=65535\nd=100\nm=0\nk=1\np=0\nid=2\nc=0\nt=1\nd=1\nm=1234\nk=64\np=1\n";
     let lines: Vec<String> = text.split_inclusive('\n').map(String::from).collect();
     for (at, line) in lines.iter().enumerate() {
         let shared = if at == 0 { &lines[..1] } else { &lines[..] };
@@ -235,7 +246,7 @@ fn halves_and_every_length() {
         let begins = (0..=text.len()).filter(|&end| is_beginning(&text[..end]));
         let last = expected.unwrap_or(text.len());
         assert!(begins.eq(0..=last), "{}", shown(&text));
-        let mut room = [0; 192];
+        let mut room = [0; 224];
         assert_eq!(read_into(&text, &mut room), read(&text), "{}", shown(&text));
     }
 }

@@ -3,12 +3,13 @@
 
 use peer::answer::Answer;
 use peer::brute::held::met_among;
+use peer::brute::pattern::is_mandatory;
 use peer::dispatch::{
     fresh, fresh_words, from_words, run, run_watched, run_words, spare, tick, tick_words, to_words,
     well_formed, well_formed_words, State, STATE_WORDS,
 };
 use peer::gen::{damaged_states, faulty_table, scrambled_state, state, table};
-use peer::pattern::mandatory;
+use peer::pattern::Pattern;
 use peer::rng::Rng;
 use peer::table::check;
 
@@ -20,19 +21,20 @@ const T: usize = 2;
 const D: usize = 3;
 const M: usize = 4;
 const K: usize = 5;
-const WAIT: usize = 6;
-const PLACE: usize = 7;
-const WORK: usize = 8;
-const LEFT: usize = 9;
-const KIND: usize = 10;
-const WINDOW: usize = 11;
-const RELEASED: usize = 12;
-const MM: usize = 13;
-const BROKEN: usize = 17;
-const HELD: usize = 18;
+const P: usize = 6;
+const WAIT: usize = 7;
+const PLACE: usize = 8;
+const WORK: usize = 9;
+const LEFT: usize = 10;
+const KIND: usize = 11;
+const WINDOW: usize = 12;
+const RELEASED: usize = 13;
+const MM: usize = 14;
+const BROKEN: usize = 18;
+const HELD: usize = 19;
 
 fn row(at: usize) -> std::ops::Range<usize> {
-    3 + 19 * at..3 + 19 * (at + 1)
+    3 + 20 * at..3 + 20 * (at + 1)
 }
 
 /// Step 1: "Every row with wait 0 releases its next job".
@@ -40,7 +42,8 @@ fn release_literally(row: &mut [u64]) {
     if row[WAIT] == 0 {
         row[WORK] = row[C];
         row[LEFT] = row[D];
-        let kind = mandatory(row[M] as u32, row[K] as u32, row[PLACE] as u32);
+        let [m, k, p] = [M, K, P].map(|word| row[word] as u32);
+        let kind = is_mandatory(Pattern { m, k, p }, row[PLACE] as u32);
         row[KIND] = u64::from(kind);
         row[WAIT] = row[T];
         row[PLACE] = (row[PLACE] + 1) % row[K];
@@ -120,13 +123,13 @@ fn row_well_formed_literally(row: &[u64], time: u64) -> bool {
 
 /// "A state offered by a caller is well formed when .."
 fn well_formed_literally(words: &[u64]) -> bool {
-    if words.len() != 611 || words[0] > 32 {
+    if words.len() != 643 || words[0] > 32 {
         return false;
     }
     let rows = words[0] as usize;
     let mut table = Vec::new();
     for at in 0..rows {
-        for word in &words[row(at)][..6] {
+        for word in &words[row(at)][..7] {
             // 2^32 - 1 is outside every field's range, as any larger word is.
             table.push(u32::try_from(*word).unwrap_or(u32::MAX));
         }
@@ -135,7 +138,7 @@ fn well_formed_literally(words: &[u64]) -> bool {
         && words[1] <= CLOCK_END
         && words[2] <= words[1]
         && (0..rows).all(|at| row_well_formed_literally(&words[row(at)], words[1]))
-        && words[3 + 19 * rows..].iter().all(|&word| word == 0)
+        && words[3 + 20 * rows..].iter().all(|&word| word == 0)
 }
 
 /// "14 | state not well formed", or accepted.
@@ -166,13 +169,13 @@ fn drawn_states_are_well_formed() {
     assert!(live > 10_000 && dead > 10_000 && unreached > 1_000);
 }
 
-/// The word's name: 0 to 2 in the head, 3 to 21 in a row; none past the last row.
+/// The word's name: 0 to 2 in the head, 3 to 22 in a row; none past the last row.
 fn field_of(words: &[u64], at: usize) -> Option<usize> {
     let rows = words[0].min(32) as usize;
     match at {
         0..3 => Some(at),
-        _ if at >= 3 + 19 * rows => None,
-        _ => Some(3 + (at - 3) % 19),
+        _ if at >= 3 + 20 * rows => None,
+        _ => Some(3 + (at - 3) % 20),
     }
 }
 
@@ -180,7 +183,7 @@ fn field_of(words: &[u64], at: usize) -> Option<usize> {
 #[test]
 fn damaged_states_are_told_apart() {
     let mut rng = Rng::new(11);
-    let (mut kept, mut broken, mut past) = ([0u32; 22], [0u32; 22], 0);
+    let (mut kept, mut broken, mut past) = ([0u32; 23], [0u32; 23], 0);
     for _ in 0..300 {
         let good = state(&mut rng);
         for damaged in damaged_states(&mut rng, &good) {
@@ -199,7 +202,7 @@ fn damaged_states_are_told_apart() {
     // The released count and the four settled ones are tied to one another, the
     // number of rows to the rows and that of met marks to the window: none of these
     // can change alone.
-    let tied = [0, 3 + 12, 3 + 13, 3 + 14, 3 + 15, 3 + 16, 3 + HELD];
+    let tied = [0, 3 + RELEASED, 3 + MM, 4 + MM, 5 + MM, 6 + MM, 3 + HELD];
     for (field, &cases) in kept.iter().enumerate() {
         assert_eq!(cases == 0, tied.contains(&field), "word {field}: {cases}");
     }
@@ -207,10 +210,10 @@ fn damaged_states_are_told_apart() {
 }
 
 /// A state with time 10 and idle 3. Row 0 has no live job, row 1 has one.
-fn two_rows() -> [u64; 611] {
-    let mut words = [0; 611];
+fn two_rows() -> [u64; 643] {
+    let mut words = [0; 643];
     words[..3].copy_from_slice(&[2, 10, 3]);
-    let dead = [7, 2, 5, 4, 1, 2, 4, 1, 0, 0, 0, 1, 2, 1, 0, 1, 0, 2, 1];
+    let dead = [7, 2, 5, 4, 1, 2, 0, 4, 1, 0, 0, 0, 1, 2, 1, 0, 1, 0, 2, 1];
     let live = [
         8,
         3,
@@ -218,6 +221,7 @@ fn two_rows() -> [u64; 611] {
         2,
         2,
         64,
+        1,
         5,
         63,
         3,
@@ -238,7 +242,7 @@ fn two_rows() -> [u64; 611] {
 }
 
 /// Each bound by hand: row, word, value and whether the state stays well formed.
-const BOUNDS: [(usize, usize, u64, bool); 48] = [
+const BOUNDS: [(usize, usize, u64, bool); 59] = [
     // wait 0..T-1, and no less than the ticks left of a live job
     (0, WAIT, 0, true),
     (0, WAIT, 5, false),
@@ -293,6 +297,18 @@ const BOUNDS: [(usize, usize, u64, bool); 48] = [
     (0, M, 3, false),
     (0, K, 3, true),
     (0, K, 65, false),
+    // p 0 or 1, and no other word even where its low bits are
+    (0, P, 1, true),
+    (1, P, 0, true),
+    (0, P, 2, false),
+    (1, P, 2, false),
+    (0, P, 65_535, false),
+    (0, P, CLOCK_END, false),
+    (0, P, 1 << 32, false),
+    (1, P, (1 << 32) + 1, false),
+    (1, P, u64::MAX, false),
+    (2, P, 1, false),
+    (31, P, 1, false),
     (0, 0, 8, false),
     (2, 0, 1, false),
     (31, BROKEN, 1, false),
@@ -387,7 +403,7 @@ fn fresh_runs_follow_the_four_steps() {
     let mut rng = Rng::new(14);
     for _ in 0..2_000 {
         let table = table(&mut rng);
-        let mut words = vec![0; 611];
+        let mut words = vec![0; 643];
         assert!(fresh_words(&table, &mut words).is_accepted());
         let mut expected = words.clone();
         let n = rng.below(600) as u32;
@@ -481,7 +497,7 @@ fn runs_add_up() {
 /// "The clock ends at 4,294,967,295", and no sooner.
 #[test]
 fn the_clocks_end() {
-    let mut state = fresh(&[9, 1, 3, 2, 1, 2]).unwrap();
+    let mut state = fresh(&[9, 1, 3, 2, 1, 2, 0]).unwrap();
     state.time = u32::MAX - 5;
     let start = state.clone();
     for n in [6, 7, u32::MAX] {
@@ -508,15 +524,15 @@ fn the_clocks_end() {
 /// "Fresh: time 0, idle 0, wait 0, place 0, nothing live, counts 0, window of k
 /// met marks", and k is their number.
 fn fresh_literally(table: &[u32]) -> Vec<u64> {
-    let mut words = vec![0; 611];
-    words[0] = table.len() as u64 / 6;
-    for (at, six) in table.chunks(6).enumerate() {
+    let mut words = vec![0; 643];
+    words[0] = table.len() as u64 / 7;
+    for (at, seven) in table.chunks(7).enumerate() {
         let saved = &mut words[row(at)];
-        for (word, field) in saved.iter_mut().zip(six) {
+        for (word, field) in saved.iter_mut().zip(seven) {
             *word = u64::from(*field);
         }
-        saved[WINDOW] = (0..six[5]).map(|bit| 1 << bit).sum();
-        saved[HELD] = u64::from(six[5]);
+        saved[WINDOW] = (0..seven[5]).map(|bit| 1 << bit).sum();
+        saved[HELD] = u64::from(seven[5]);
     }
     words
 }
@@ -524,14 +540,14 @@ fn fresh_literally(table: &[u32]) -> Vec<u64> {
 #[test]
 fn fresh_states() {
     let mut rng = Rng::new(17);
-    let mut seen = [0u32; 14];
+    let mut seen = [0u32; 17];
     for at in 0..10_000 {
         let words = if at % 2 == 0 {
             faulty_table(&mut rng)
         } else {
             table(&mut rng)
         };
-        let mut room = vec![3; [0, 610, 611, 611, 612, 600][rng.index(6)]];
+        let mut room = vec![3; [0, 642, 643, 643, 644, 600][rng.index(6)]];
         let mut expected = room.clone();
         let answer = fresh_words(&words, &mut room);
         seen[answer.refusal as usize] += 1;
@@ -542,13 +558,13 @@ fn fresh_states() {
             assert_eq!(answer, of_the_table);
         }
         if answer.is_accepted() {
-            expected[..611].copy_from_slice(&fresh_literally(&words));
+            expected[..643].copy_from_slice(&fresh_literally(&words));
         }
         assert_eq!(room, expected);
     }
-    // All but 11 and 12, which are no refusals of a table's.
-    let unseen: Vec<usize> = (0..14).filter(|&number| seen[number] == 0).collect();
-    assert_eq!(unseen, [11, 12]);
+    // All but 11, 12, 14 and 15, which are no refusals of a table's.
+    let unseen: Vec<usize> = (0..17).filter(|&number| seen[number] == 0).collect();
+    assert_eq!(unseen, [11, 12, 14, 15]);
 }
 
 #[test]
@@ -560,11 +576,11 @@ fn saved_and_read_back() {
         assert!(well_formed(&state));
         assert_eq!(to_words(&state).as_slice(), words);
     }
-    assert!(from_words(&[0; 610]).is_none() && from_words(&[0; 612]).is_none());
-    // What was a saved state before it had the number of met marks.
-    assert!(from_words(&[0; 579]).is_none());
-    assert!(from_words(&[0; 611]).is_some());
-    assert_eq!(well_formed_words(&[0; 611]), Answer::refused(14));
+    assert!(from_words(&[0; 642]).is_none() && from_words(&[0; 644]).is_none());
+    // What was a saved state before its rows had a p.
+    assert!(from_words(&[0; 611]).is_none());
+    assert!(from_words(&[0; 643]).is_some());
+    assert_eq!(well_formed_words(&[0; 643]), Answer::refused(14));
     assert_eq!(well_formed_words(&[]), Answer::refused(14));
 }
 

@@ -1,4 +1,5 @@
-//! "Examples on each side of a limit": P1 to P12, and the worked example.
+//! "Examples on each side of a limit": P1 to P12, and the worked example, each row
+//! with p 0.
 
 use peer::answer::Answer;
 use peer::dispatch::{fresh, run, tick};
@@ -7,10 +8,10 @@ use peer::report::report;
 use peer::table::check;
 use peer::verdict::{load, verdict, verdict_leaping};
 
-const P5: [u32; 12] = [11, 2, 4, 4, 1, 2, 12, 4, 6, 6, 2, 3];
+const P5: [u32; 14] = [11, 2, 4, 4, 1, 2, 0, 12, 4, 6, 6, 2, 3, 0];
 
-const INPUT: &str = "ticks=24\nrows=2\nid=11\nc=2\nt=4\nd=4\nm=1\nk=2\n\
-                     id=12\nc=4\nt=6\nd=6\nm=2\nk=3\n";
+const INPUT: &str = "ticks=24\nrows=2\nid=11\nc=2\nt=4\nd=4\nm=1\nk=2\np=0\n\
+                     id=12\nc=4\nt=6\nd=6\nm=2\nk=3\np=0\n";
 
 const OUTPUT: &str = "verdict=admitted\nticks=24\nidle=0\n\
     row=0\nid=11\nr=2\nreleased=6\nmm=3\nmx=0\nom=2\nox=1\nbroken=0\nspare=1\n\
@@ -28,7 +29,7 @@ fn mandatory_jobs(m: u32, k: u32, jobs: u32) -> Vec<u32> {
 
 /// Both searches give the same verdict; room for the rows and two words more.
 fn judged(words: &[u32]) -> (Answer, Vec<u32>) {
-    let mut room = vec![77; words.len() / 6 + 2];
+    let mut room = vec![77; words.len() / 7 + 2];
     let mut leapt = room.clone();
     let answer = verdict(words, &mut room);
     assert_eq!(verdict_leaping(words, &mut leapt), answer);
@@ -65,13 +66,13 @@ fn p5_the_table_above() {
 #[test]
 fn p6_one_unit_too_many() {
     let mut words = P5;
-    words[7] = 5;
+    words[8] = 5;
     assert_eq!(judged(&words), (Answer::refused_at(11, 1), vec![77; 4]));
 }
 
 #[test]
 fn p7_fits_before_the_deadline_only() {
-    let words = [1, 2, 4, 4, 1, 1, 2, 2, 5, 5, 1, 1];
+    let words = [1, 2, 4, 4, 1, 1, 0, 2, 2, 5, 5, 1, 1, 0];
     assert_eq!(judged(&words), (Answer::accepted(2), vec![2, 4, 77, 77]));
     let table = peer::table::Table::of(&words).unwrap();
     assert_eq!(load(&table, 1, 4), 4);
@@ -80,13 +81,13 @@ fn p7_fits_before_the_deadline_only() {
 
 #[test]
 fn p8_fits_nowhere() {
-    let words = [1, 2, 4, 4, 1, 1, 2, 3, 5, 5, 1, 1];
+    let words = [1, 2, 4, 4, 1, 1, 0, 2, 3, 5, 5, 1, 1, 0];
     assert_eq!(judged(&words), (Answer::refused_at(11, 1), vec![77; 4]));
 }
 
 #[test]
 fn p9_never_idle() {
-    let words = [1, 1, 1, 1, 1, 1];
+    let words = [1, 1, 1, 1, 1, 1, 0];
     assert_eq!(judged(&words), (Answer::accepted(1), vec![1, 77, 77]));
     let mut state = fresh(&words).unwrap();
     assert_eq!(run(&mut state, 1_000), Answer::accepted(0));
@@ -95,7 +96,7 @@ fn p9_never_idle() {
 
 #[test]
 fn p10_missed_at_time_one() {
-    let words = [1, 2, 4, 1, 1, 1];
+    let words = [1, 2, 4, 1, 1, 1, 0];
     assert_eq!(judged(&words), (Answer::refused_at(11, 0), vec![77; 3]));
     let mut state = fresh(&words).unwrap();
     assert_eq!(tick(&mut state), Answer::accepted(0));
@@ -108,14 +109,14 @@ fn p10_missed_at_time_one() {
 #[test]
 fn p11_lengths() {
     assert_eq!(check(&[]), Answer::refused(2));
-    assert_eq!(check(&[1; 7]), Answer::refused(1));
+    assert_eq!(check(&[1; 8]), Answer::refused(1));
     assert_eq!(judged(&[]).0, Answer::refused(2));
-    assert_eq!(judged(&[1; 7]).0, Answer::refused(1));
+    assert_eq!(judged(&[1; 8]).0, Answer::refused(1));
 }
 
 #[test]
 fn p12_row_by_row() {
-    let words = [1, 1, 1, 1, 1, 65, 0, 1, 1, 1, 1, 1];
+    let words = [1, 1, 1, 1, 1, 65, 0, 0, 1, 1, 1, 1, 1, 0];
     assert_eq!(check(&words), Answer::refused_at(8, 0));
     assert_eq!(judged(&words).0, Answer::refused_at(8, 0));
 }

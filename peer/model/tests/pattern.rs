@@ -1,8 +1,10 @@
 //! "Patterns": the rule, its counts and the book.
 
 use peer::answer::Answer;
+use peer::brute::pattern as literal;
 use peer::gen::job_question;
 use peer::pattern::{book, count, entry, is_pair, job, mandatory, place, word, PAIRS};
+use peer::pattern::{Pattern, EVEN, RED};
 use peer::rng::Rng;
 
 fn pairs() -> impl Iterator<Item = (u32, u32)> {
@@ -124,4 +126,105 @@ fn pairs_outside_their_range() {
     assert_eq!(job(0, 0, 0), Answer::refused_at(8, 0));
     assert_eq!(job(0, 64, 0), Answer::refused_at(9, 0));
     assert_eq!(job(64, 64, u32::MAX), Answer::accepted(1));
+}
+
+/// "the first m of every k jobs are mandatory. The mandatory count of the first q jobs
+/// is then floor(q / k) x m plus the smaller of q mod k and m" (document 02, 3/14).
+#[test]
+fn deeply_red_patterns() {
+    for (m, k) in pairs() {
+        let red = Pattern { m, k, p: RED };
+        assert_eq!(red.word().count_ones(), m);
+        assert_eq!(red.word().trailing_ones(), m);
+        let mut seen = 0;
+        for q in 0..200 {
+            assert_eq!(red.count(q), seen, "({m},{k}) first {q}");
+            let expected = q % k < m;
+            assert_eq!(red.is_mandatory(q), expected, "({m},{k}) job {q}");
+            assert_eq!(literal::is_mandatory(red, q), expected, "({m},{k}) job {q}");
+            seen += u64::from(expected);
+        }
+        assert_eq!(literal::count(red, 200), seen);
+    }
+}
+
+/// The even rule in the same form.
+#[test]
+fn even_patterns() {
+    for (m, k) in pairs() {
+        let even = Pattern { m, k, p: EVEN };
+        assert_eq!(even.word(), entry(m, k));
+        for q in 0..200 {
+            assert_eq!(even.count(q), count(m, k, q));
+            assert_eq!(even.is_mandatory(q), mandatory(m, k, q));
+            assert_eq!(literal::is_mandatory(even, q), mandatory(m, k, q));
+        }
+    }
+}
+
+/// What both patterns have: no q jobs in a row hold more than the first q, k in a row
+/// hold exactly m; and the first q of the red one hold no fewer than of the even one.
+#[test]
+fn what_a_pattern_must_have() {
+    for ((m, k), p) in pairs().flat_map(|pair| [(pair, EVEN), (pair, RED)]) {
+        let pattern = Pattern { m, k, p };
+        let kinds: Vec<u64> = (0..2 * k)
+            .map(|a| u64::from(literal::is_mandatory(pattern, a)))
+            .collect();
+        for from in 0..k as usize {
+            let mut held = 0;
+            for q in 1..=k {
+                held += kinds[from + q as usize - 1];
+                assert!(held <= pattern.count(q), "({m},{k}) p {p} {from}+{q}");
+            }
+            assert_eq!(held, u64::from(m), "({m},{k}) p {p} {from}");
+        }
+        let red = Pattern { m, k, p: RED };
+        assert!(
+            (0..200).all(|q| count(m, k, q) <= red.count(q)),
+            "({m},{k})"
+        );
+    }
+}
+
+/// Far jobs: near the last job number nothing wraps.
+#[test]
+fn far_red_jobs() {
+    let mut rng = Rng::new(65);
+    for _ in 0..100_000 {
+        let k = rng.word(1, 64);
+        let red = Pattern {
+            m: rng.word(1, k),
+            k,
+            p: RED,
+        };
+        let far = rng.word(0, 31);
+        let job = u32::MAX - rng.word(0, 1 << far);
+        assert_eq!(red.is_mandatory(job), literal::is_mandatory(red, job));
+        let grown = red.count(job) - red.count(job - 1);
+        assert_eq!(
+            grown == 1,
+            literal::is_mandatory(red, job - 1),
+            "{red:?} {job}"
+        );
+    }
+}
+
+#[test]
+fn no_pattern() {
+    for (m, k, p) in [
+        (1, 1, 2),
+        (2, 4, u32::MAX),
+        (0, 0, 1),
+        (0, 5, 1),
+        (6, 5, 1),
+        (1, 65, 1),
+        (65, 65, 0),
+        (u32::MAX, u32::MAX, 1),
+    ] {
+        let none = Pattern { m, k, p };
+        assert_eq!((none.word(), none.count(u32::MAX)), (0, 0), "{none:?}");
+        assert_eq!(literal::count(none, 100), 0, "{none:?}");
+        assert!(!none.is_mandatory(0) && !none.is_mandatory(u32::MAX));
+    }
 }

@@ -8,7 +8,7 @@ use peer::rng::Rng;
 use peer::table::{Table, TaskRow};
 use peer::verdict::verdict;
 
-const P5: [u32; 12] = [11, 2, 4, 4, 1, 2, 12, 4, 6, 6, 2, 3];
+const P5: [u32; 14] = [11, 2, 4, 4, 1, 2, 0, 12, 4, 6, 6, 2, 3, 0];
 
 fn kept_on(draw: fn(&mut Rng) -> Vec<u32>, seed: u64, tables: u32, ticks: u32) -> (u32, u32) {
     let mut rng = Rng::new(seed);
@@ -121,6 +121,7 @@ fn fates_by_hand() {
         d: 3,
         m: 1,
         k: 2,
+        p: 0,
     };
     let of = |ticks: &str| {
         let chosen: Vec<Option<usize>> = ticks.chars().map(|c| (c == 'x').then_some(0)).collect();
@@ -139,5 +140,5 @@ fn fates_by_hand() {
 #[test]
 fn no_promises_without_a_table() {
     assert!(check(&[], 10).is_err());
-    assert!(check(&[1, 1, 1, 1, 1, 65], 10).is_err());
+    assert!(check(&[1, 1, 1, 1, 1, 65, 0], 10).is_err());
 }

@@ -13,7 +13,8 @@ use peer::rng::Rng;
 use peer::text::read;
 use peer::verdict::verdict;
 
-const TEXT: &str = "rows=2\nid=11\nc=2\nt=4\nd=4\nm=1\nk=2\nid=12\nc=5\nt=6\nd=6\nm=2\nk=3\n";
+const TEXT: &str = "rows=2\nid=11\nc=2\nt=4\nd=4\nm=1\nk=2\np=0\n\
+                    id=12\nc=5\nt=6\nd=6\nm=2\nk=3\np=0\n";
 
 fn printed(input: &str) -> String {
     String::from_utf8(report(input.as_bytes())).unwrap()
@@ -23,9 +24,9 @@ fn printed(input: &str) -> String {
 fn expected(input: &[u8]) -> String {
     let line = input.iter().position(|&byte| byte == b'\n').unwrap();
     let ticks = std::str::from_utf8(&input[6..line]).unwrap();
-    let mut words = [0; 192];
+    let mut words = [0; 224];
     let rows = read(&input[line + 1..], &mut words).value as usize;
-    let words = &words[..6 * rows];
+    let words = &words[..7 * rows];
     let mut r = [0; 32];
     let answer = verdict(words, &mut r);
     let mut out = match answer.refusal {
@@ -81,7 +82,7 @@ fn agrees(input: &[u8]) -> usize {
 #[test]
 fn drawn_inputs() {
     let mut rng = Rng::new(30);
-    let mut seen = [0u32; 13];
+    let mut seen = [0u32; 17];
     for _ in 0..1_500 {
         seen[agrees(&report_input(&mut rng))] += 1;
     }
@@ -90,7 +91,7 @@ fn drawn_inputs() {
 
 #[test]
 fn inputs_gone_wrong_in_each_way() {
-    let mut seen = [0u32; 13];
+    let mut seen = [0u32; 17];
     for input in special_inputs() {
         seen[agrees(&input)] += 1;
     }
@@ -133,8 +134,16 @@ fn refusals_by_hand() {
         ("ticks=5\nrows=0\n", "refused=2\n"),
         ("ticks=5\nrows=33\n", "refused=3\n"),
         (
-            "ticks=5\nrows=1\nid=1\nc=1\nt=1\nd=1\nm=1\nk=65\n",
+            "ticks=5\nrows=1\nid=1\nc=1\nt=1\nd=1\nm=1\nk=65\np=0\n",
             "refused=8\nat=0\n",
+        ),
+        (
+            "ticks=5\nrows=1\nid=1\nc=1\nt=1\nd=1\nm=1\nk=1\np=2\n",
+            "refused=16\nat=0\n",
+        ),
+        (
+            "ticks=5\nrows=1\nid=1\nc=1\nt=1\nd=1\nm=1\nk=1\n",
+            "refused=12\nat=40\n",
         ),
         ("ticks=123456\nrows=0\n", "refused=12\nat=11\n"),
     ];

@@ -178,7 +178,7 @@ fn broken_after_the_last_spare_miss() {
         let k = rng.word(1, 64);
         let m = rng.word(1, k);
         // A job in each tick, with more work than it has ticks.
-        let mut state = fresh(&[1, 2, 1, 1, m, k]).unwrap();
+        let mut state = fresh(&[1, 2, 1, 1, m, k, 1]).unwrap();
         state.row[0].window = drawn_window(&mut rng, k);
         state.row[0].held = state.row[0].window.count_ones();
         let figure = spare(state.row[0].window, m, k);

@@ -13,7 +13,7 @@ fn read_into(text: &[u8], length: usize) -> (Answer, Vec<u32>) {
     let mut room = vec![0xDEAD; length];
     let answer = read(text, &mut room);
     let filled = if answer.is_accepted() {
-        6 * answer.value as usize
+        7 * answer.value as usize
     } else {
         0
     };
@@ -25,7 +25,7 @@ fn read_into(text: &[u8], length: usize) -> (Answer, Vec<u32>) {
 /// The reader's answer is the rule's; a text that is read is written back the
 /// same. Gives the refusal's number.
 fn agrees(text: &[u8]) -> usize {
-    let (answer, words) = read_into(text, 200);
+    let (answer, words) = read_into(text, 240);
     let shown = String::from_utf8_lossy(text);
     assert_eq!(answer, brute::read(text), "{shown:?}");
     if answer.is_accepted() {
@@ -37,11 +37,11 @@ fn agrees(text: &[u8]) -> usize {
 #[test]
 fn damaged_texts_and_the_rule() {
     let mut rng = Rng::new(20);
-    let mut seen = [0u32; 13];
+    let mut seen = [0u32; 17];
     for _ in 0..100_000 {
         seen[agrees(&damaged_text(&mut rng))] += 1;
     }
-    let expected = [0, 2, 3, 4, 5, 6, 7, 8, 9, 10, 12];
+    let expected = [0, 2, 3, 4, 5, 6, 7, 8, 9, 10, 12, 16];
     assert!(
         expected.iter().all(|&number| seen[number] > 200),
         "{seen:?}"
@@ -50,7 +50,7 @@ fn damaged_texts_and_the_rule() {
 
 #[test]
 fn special_texts_and_the_rule() {
-    let mut seen = [0u32; 13];
+    let mut seen = [0u32; 17];
     for text in special_texts() {
         seen[agrees(&text)] += 1;
     }
@@ -67,7 +67,7 @@ fn special_texts_and_the_rule() {
 /// beginning of it.
 #[test]
 fn every_byte_at_every_place() {
-    let text = text_of(&[10, 1, 65_535, 20, 3, 64]);
+    let text = text_of(&[10, 1, 65_535, 20, 3, 64, 1]);
     for at in 0..=text.len() {
         for byte in 0..=255 {
             let mut longer = text[..at].to_vec();
@@ -85,7 +85,7 @@ fn every_byte_at_every_place() {
 }
 
 /// Texts with the refusal and the place they have by hand.
-const BY_HAND: [(&[u8], u64, u64); 24] = [
+const BY_HAND: [(&[u8], u64, u64); 32] = [
     (b"", 12, 0),
     (b"\n", 12, 0),
     (b"rows", 12, 4),
@@ -108,8 +108,16 @@ const BY_HAND: [(&[u8], u64, u64); 24] = [
     (b"rows=1\nid=123456", 12, 15),
     (b"rows=1\nid=1\nt=1\n", 12, 12),
     (b"rows=1\nid=0\nc=0\nt=0\nd=0\nm=0\nk=0", 12, 31),
-    (b"rows=1\nid=0\nc=0\nt=0\nd=0\nm=0\nk=0\n", 4, 0),
+    (b"rows=1\nid=0\nc=0\nt=0\nd=0\nm=0\nk=0\n", 12, 32),
     (b"rows=1\nid=0\nc=0\nt=0\nd=0\nm=0\nk=0\nid", 12, 32),
+    (b"rows=1\nid=0\nc=0\nt=0\nd=0\nm=0\nk=0\nP=0\n", 12, 32),
+    (b"rows=1\nid=0\nc=0\nt=0\nd=0\nm=0\np=0\nk=0\n", 12, 28),
+    (b"rows=1\nid=0\nc=0\nt=0\nd=0\nm=0\nk=0\np=\n", 12, 34),
+    (b"rows=1\nid=0\nc=0\nt=0\nd=0\nm=0\nk=0\np=01", 12, 35),
+    (b"rows=1\nid=0\nc=0\nt=0\nd=0\nm=0\nk=0\np=0\n", 4, 0),
+    (b"rows=1\nid=0\nc=0\nt=0\nd=0\nm=0\nk=0\np=0\np", 12, 36),
+    (b"rows=1\nid=1\nc=1\nt=1\nd=1\nm=1\nk=1\np=2\n", 16, 0),
+    (b"rows=1\nid=1\nc=1\nt=1\nd=1\nm=1\nk=1\np=65535\n", 16, 0),
 ];
 
 /// Rule and reader do not merely share a mistake.
@@ -118,7 +126,7 @@ fn places_by_hand() {
     for (text, refusal, value) in BY_HAND {
         let expected = Answer { refusal, value };
         let shown = String::from_utf8_lossy(text);
-        assert_eq!(read_into(text, 200).0, expected, "{shown:?}");
+        assert_eq!(read_into(text, 240).0, expected, "{shown:?}");
         assert_eq!(brute::read(text), expected, "{shown:?}");
     }
 }
@@ -136,7 +144,7 @@ fn write_and_read_round_trips() {
         assert_eq!(answer, Answer::accepted(text.len() as u64));
         assert_eq!(room[..text.len()], text);
         assert!(room[text.len()..].iter().all(|&byte| byte == 7));
-        let rows = words.len() / 6;
+        let rows = words.len() / 7;
         let (answer, read_back) = read_into(&text, words.len());
         assert_eq!(
             (answer, read_back),
@@ -173,11 +181,11 @@ fn faulty_tables_are_not_written() {
 #[test]
 fn the_plain_writer() {
     let mut rng = Rng::new(25);
-    let mut seen = [0u32; 14];
+    let mut seen = [0u32; 17];
     for at in 0..20_000u32 {
         let words = match at % 4 {
             0 => faulty_table(&mut rng),
-            1 => vec![1 + at, 1 + at, 1 + at, 1, 1, 1 + at % 64],
+            1 => vec![1 + at, 1 + at, 1 + at, 1, 1, 1 + at % 64, at % 2],
             _ => table(&mut rng),
         };
         let needed = text_of(&words).len();
@@ -200,7 +208,7 @@ fn rows_come_before_the_room() {
     for _ in 0..5_000 {
         let words = faulty_table(&mut rng);
         let nameable = words.iter().all(|&word| word <= 99_999);
-        if !words.len().is_multiple_of(6) || !nameable {
+        if !words.len().is_multiple_of(7) || !nameable {
             continue;
         }
         let expected = check(&words);
@@ -215,13 +223,13 @@ fn rows_come_before_the_room() {
     assert!(refused > 1_000);
 }
 
-/// "The longest accepted text is 1,384 bytes."
+/// "The longest accepted text is 1,384 bytes", and 32 lines of four bytes since then.
 #[test]
 fn the_longest_text() {
     let words = longest_table();
     let text = text_of(&words);
-    assert_eq!((text.len(), TEXT_MAX), (1_384, 1_384));
-    assert_eq!(read_into(&text, 192), (Answer::accepted(32), words.clone()));
-    assert_eq!(write(&words, &mut [0; 1_383]), Answer::refused(13));
-    assert_eq!(write(&words, &mut [0; 1_384]), Answer::accepted(1_384));
+    assert_eq!((text.len(), TEXT_MAX), (1_512, 1_512));
+    assert_eq!(read_into(&text, 224), (Answer::accepted(32), words.clone()));
+    assert_eq!(write(&words, &mut [0; 1_511]), Answer::refused(13));
+    assert_eq!(write(&words, &mut [0; 1_512]), Answer::accepted(1_512));
 }

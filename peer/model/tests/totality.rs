@@ -30,7 +30,7 @@ fn rubbish_words() {
     let mut rng = Rng::new(50);
     for _ in 0..20_000 {
         let length = if rng.once_in(2) {
-            6 * rng.index(40)
+            7 * rng.index(40)
         } else {
             rng.index(250)
         };
@@ -40,10 +40,10 @@ fn rubbish_words() {
         let judged = verdict(&words, &mut room);
         assert_eq!(verdict_leaping(&words, &mut room), judged);
         assert!(judged == answer || judged.refusal == 11 || judged.is_accepted());
-        let mut text = vec![0; 1_400];
+        let mut text = vec![0; 1_600];
         assert_eq!(write(&words, &mut text).refusal, answer.refusal);
         assert!(text_of(&words).starts_with(b"rows="));
-        assert_eq!(fresh_words(&words, &mut [0; 611]), answer);
+        assert_eq!(fresh_words(&words, &mut [0; 643]), answer);
     }
 }
 
@@ -69,7 +69,7 @@ fn rubbish_bytes() {
     let mut rng = Rng::new(52);
     for _ in 0..20_000 {
         let bytes: Vec<u8> = (0..rng.index(60)).map(|_| rng.bits() as u8).collect();
-        let answer = read(&bytes, &mut [0; 192]);
+        let answer = read(&bytes, &mut [0; 224]);
         assert_eq!(answer.refusal, 12);
         assert!(answer.value <= bytes.len() as u64);
         assert!(report(&bytes).starts_with(b"refused=12\nat="));
@@ -81,7 +81,7 @@ fn rubbish_bytes() {
 fn rubbish_states() {
     let mut rng = Rng::new(53);
     for _ in 0..3_000 {
-        let mut words: Vec<u64> = (0..611).map(|_| any_number(&mut rng)).collect();
+        let mut words: Vec<u64> = (0..643).map(|_| any_number(&mut rng)).collect();
         assert_eq!(
             run_words(&mut words, any_number(&mut rng) as u32).refusal,
             14

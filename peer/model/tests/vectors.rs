@@ -7,7 +7,7 @@ use std::fs;
 use peer::vectors::{answer, answers, cases};
 
 /// The first program reads so many bytes of cases, and so many numbers of one.
-const TEXT_MAX: usize = 262_144;
+const TEXT_MAX: usize = 400_000;
 const NUMBERS_MAX: usize = 2_048;
 
 fn stored(name: &str) -> String {
@@ -54,7 +54,7 @@ fn given(operation: u64, at: usize) -> BTreeSet<u64> {
 
 #[test]
 fn every_refusal_is_reached() {
-    let table = [1, 2, 3, 4, 5, 6, 7, 8, 9, 10];
+    let table = [1, 2, 3, 4, 5, 6, 7, 8, 9, 10, 16];
     let with = |more: &[u64]| table.iter().chain(more).copied().collect::<BTreeSet<u64>>();
     assert_eq!(given(1, 1), BTreeSet::from([0, 8, 9]));
     assert_eq!(given(2, 1), BTreeSet::from([0, 8, 9]));
@@ -66,7 +66,7 @@ fn every_refusal_is_reached() {
     assert_eq!(given(6, 7), BTreeSet::from([0, 14, 15]));
     assert_eq!(given(6, 9), BTreeSet::from([0, 14, 15]));
     assert_eq!(given(7, 5), BTreeSet::from([0, 13, 14]));
-    let text = [2, 3, 4, 5, 6, 7, 8, 9, 10, 12, 13, 0];
+    let text = [2, 3, 4, 5, 6, 7, 8, 9, 10, 12, 13, 16, 0];
     assert_eq!(given(8, 1), BTreeSet::from(text));
     assert_eq!(given(9, 1), with(&[0, 13]));
     assert_eq!(given(10, 1), BTreeSet::from([0, 13]));
@@ -78,27 +78,27 @@ fn document_01_by_hand() {
     assert_eq!(answered("1 2 3 4\n1 2 3 5\n"), "1 0 1\n1 0 0\n");
     assert_eq!(answered("2 1 1\n2 2 3\n2 3 5\n"), "2 0 1\n2 0 3\n2 0 11\n");
     assert_eq!(answered("1 1 65 0\n2 4 3\n"), "1 8 0\n2 9 0\n");
-    assert_eq!(answered("3\n3 1 2 3 4 5 6 7\n"), "3 2 0\n3 1 0\n");
-    assert_eq!(answered("3 1 1 1 1 1 65 0 1 1 1 1 1\n"), "3 8 0\n");
-    let p5 = "11 2 4 4 1 2 12 4 6 6 2 3\n";
+    assert_eq!(answered("3\n3 1 2 3 4 5 6 7 8\n"), "3 2 0\n3 1 0\n");
+    assert_eq!(answered("3 1 1 1 1 1 65 0 0 1 1 1 1 1 0\n"), "3 8 0\n");
+    let p5 = "11 2 4 4 1 2 0 12 4 6 6 2 3 0\n";
     assert_eq!(
         answered(&format!("4 3 {p5}")),
         "4 0 2 2 6 4000000007\n".to_string()
     );
     assert_eq!(answered(&format!("4 1 {p5}")), "4 13 0 4000000007\n");
-    let p6 = "11 2 4 4 1 2 12 5 6 6 2 3\n";
+    let p6 = "11 2 4 4 1 2 0 12 5 6 6 2 3 0\n";
     assert_eq!(
         answered(&format!("4 2 {p6}")),
         "4 11 1 4000000007 4000000007\n"
     );
     // The printed example: row 0 after 24 ticks.
     assert_eq!(
-        answered(&format!("7 611 24 640 0 0 8 {p5}")),
+        answered(&format!("7 643 24 672 0 0 8 {p5}")),
         "7 0 2 0 0 0 0 6 3 0 2 1 0 1 4000000007\n"
     );
     // P10: job 0 is missed at time 1, which leaves the window without a mark.
-    let line = answered("6 611 0 640 0 0 1 2 4 1 1 1\n");
-    let shown = "6 0 1 0 0 0 0 0 0 0 0 1 1 0 1 2 4 1 1 1 3 0 0 0 0 0 1 0 1 0 0 1 0 ";
+    let line = answered("6 643 0 672 0 0 1 2 4 1 1 1 0\n");
+    let shown = "6 0 1 0 0 0 0 0 0 0 0 1 1 0 1 2 4 1 1 1 0 3 0 0 0 0 0 1 0 1 0 0 1 0 ";
     assert!(line.starts_with(shown), "{line}");
 }
 
@@ -107,24 +107,41 @@ fn document_01_by_hand() {
 /// left, as many as either window holds.
 #[test]
 fn document_02_by_hand() {
-    let of = |window| answered(&format!("7 611 2 14 {window} 0 7 1 2 1 1 1 3\n"));
+    let of = |window| answered(&format!("7 643 2 15 {window} 0 7 1 2 1 1 1 3 0\n"));
     assert_eq!(of(0b100), "7 0 1 0 0 0 0 2 0 1 0 1 0 0\n");
     assert_eq!(of(0b001), "7 0 1 0 0 0 0 2 0 1 0 1 0 2\n");
     assert_eq!(of(0b011), "7 0 1 0 0 14 0 4000000007 4000000007 4000000007 4000000007 4000000007 4000000007 4000000007\n");
 }
 
-/// 2/14: the number as it stands in word 18 of the row, place 21 for row 0.
+/// 2/14: the number as it stands in word 19 of the row, place 22 for row 0.
 #[test]
 fn met_marks_by_hand() {
-    let of = |head: &str| answered(&format!("11 {head} 1 2 1 1 1 3\n"));
-    assert_eq!(of("611 0 640 0 0"), "11 0 1 0 0 0 3\n");
-    assert_eq!(of("611 2 640 0 0"), "11 0 1 0 0 0 1\n");
-    assert_eq!(of("611 3 640 0 0"), "11 0 1 0 0 0 0\n");
-    assert_eq!(of("611 2 21 7 0"), "11 0 1 0 0 0 7\n");
-    assert_eq!(of("611 2 40 7 1"), "11 0 1 0 0 0 0\n");
-    assert_eq!(of("611 2 0 33 0"), "11 0 1 0 0 14 0\n");
-    assert_eq!(of("612 2 640 0 0"), "11 0 1 14 0 14 0\n");
-    assert_eq!(of("579 2 640 0 0"), "11 13 0 14 0 14 0\n");
+    let of = |head: &str| answered(&format!("11 {head} 1 2 1 1 1 3 1\n"));
+    assert_eq!(of("643 0 672 0 0"), "11 0 1 0 0 0 3\n");
+    assert_eq!(of("643 2 672 0 0"), "11 0 1 0 0 0 1\n");
+    assert_eq!(of("643 3 672 0 0"), "11 0 1 0 0 0 0\n");
+    assert_eq!(of("643 2 22 7 0"), "11 0 1 0 0 0 7\n");
+    assert_eq!(of("643 2 42 7 1"), "11 0 1 0 0 0 0\n");
+    assert_eq!(of("643 2 0 33 0"), "11 0 1 0 0 14 0\n");
+    assert_eq!(of("644 2 672 0 0"), "11 0 1 14 0 14 0\n");
+    assert_eq!(of("611 2 672 0 0"), "11 13 0 14 0 14 0\n");
+}
+
+/// 3/14: jobs 0 and 1 of (2,4) are mandatory where the row is deeply-red, 0 and 2
+/// where it is even; place 9 is p of row 0. The row has a job in each tick.
+#[test]
+fn deeply_red_by_hand() {
+    let of = |head: &str, p: u32| answered(&format!("7 643 {head} 0 7 1 1 1 1 2 4 {p}\n"));
+    assert_eq!(of("2 672 0", 0), "7 0 1 0 0 0 0 2 1 0 1 0 0 2\n");
+    assert_eq!(of("2 672 0", 1), "7 0 1 0 0 0 0 2 2 0 0 0 0 2\n");
+    assert_eq!(of("3 672 0", 0), "7 0 1 0 0 0 0 3 2 0 1 0 0 2\n");
+    assert_eq!(of("3 672 0", 1), "7 0 1 0 0 0 0 3 2 0 1 0 0 2\n");
+    assert!(of("3 9 2", 1).starts_with("7 0 1 0 0 14 0 "));
+    assert_eq!(answered("3 1 1 1 1 2 4 2\n"), "3 16 0\n");
+    assert_eq!(answered("3 1 1 1 1 5 4 2\n"), "3 9 0\n");
+    let twice = "1 1 1 1 2 4 1 1 1 1 1 2 4";
+    assert_eq!(answered(&format!("3 {twice} 2\n")), "3 16 1\n");
+    assert_eq!(answered(&format!("3 {twice} 1\n")), "3 10 1\n");
 }
 
 #[test]
@@ -136,13 +153,13 @@ fn what_is_no_case() {
         (2, "2 1 1\n1  2 3 4\n"),
         (1, "3 4294967296\n"),
         (1, "4 65\n"),
-        (1, "5 641\n"),
+        (1, "5 673\n"),
         (1, "8 0 256\n"),
         (1, "9 4097\n"),
-        (1, "11 611 0 640 0\n"),
-        (1, "11 641 0 640 0 0\n"),
-        (1, "11 611 0 640 0 4294967296\n"),
-        (1, "12 611 0 640 0 0\n"),
+        (1, "11 643 0 672 0\n"),
+        (1, "11 673 0 672 0 0\n"),
+        (1, "11 643 0 672 0 4294967296\n"),
+        (1, "12 643 0 672 0 0\n"),
     ] {
         assert_eq!(answers(text), Err(at), "{text:?}");
     }

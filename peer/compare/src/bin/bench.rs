@@ -12,6 +12,8 @@
 mod held;
 #[path = "bench/printing.rs"]
 mod printing;
+#[path = "bench/red.rs"]
+mod red;
 #[path = "bench/states.rs"]
 mod states;
 
@@ -20,7 +22,7 @@ use std::hint::black_box;
 use std::process::ExitCode;
 use std::time::Instant;
 
-use compare::draw::{full_table, Shape};
+use compare::draw::{full_table, Patterns, Shape};
 use compare::ffi;
 use peer::answer::Answer;
 use peer::dispatch::{fresh_words, from_words, run, run_plain, run_words, to_words};
@@ -78,6 +80,7 @@ fn main() -> ExitCode {
             alike &= verdicts(&mut rng, rows, d_max);
         }
     }
+    alike &= red::verdicts(&rng);
     for rows in [2, 8, 32] {
         alike &= ticks(&mut rng, rows);
     }
@@ -181,14 +184,19 @@ fn ask(questions: &[(u32, u32, u32)], one: impl Fn(u32, u32, u32) -> Answer) {
     }
 }
 
-/// Tables admitted with no unit of work to spare, no deadline above `d_max`.
+/// Tables of even rows admitted with no unit of work to spare, no deadline above
+/// `d_max`.
 fn tables(rng: &mut Rng, rows: usize, d_max: u32) -> Vec<Vec<u32>> {
+    tables_of(rng, rows, d_max, Patterns::Even)
+}
+
+fn tables_of(rng: &mut Rng, rows: usize, d_max: u32, patterns: Patterns) -> Vec<Vec<u32>> {
     let shape = Shape {
         rows,
         t_low: d_max / 10,
         t_high: d_max,
     };
-    let table = |_| full_table(rng, shape);
+    let table = |_| full_table(rng, shape, patterns);
     (0..TABLES).map(table).collect()
 }
 
@@ -201,8 +209,12 @@ fn answered(judge: Verdict, words: &[u32]) -> (Answer, [u32; ROWS_MAX]) {
 /// The verdict, against the second program's leaps and against its walk.
 fn verdicts(rng: &mut Rng, rows: usize, d_max: u32) -> bool {
     let tables = tables(rng, rows, d_max);
+    timed_verdicts(&format!("verdict_{rows}_rows_d_{d_max}"), &tables)
+}
+
+fn timed_verdicts(name: &str, tables: &[Vec<u32>]) -> bool {
     let peers: [(&str, Verdict); 2] = [("leaping", verdict_leaping), ("walking", verdict)];
-    for words in &tables {
+    for words in tables {
         let ours = answered(ffi::verdict, words);
         for (name, judge) in peers {
             let peer = answered(judge, words);
@@ -213,12 +225,12 @@ fn verdicts(rng: &mut Rng, rows: usize, d_max: u32) -> bool {
         }
     }
     let judge = |judge: Verdict| {
-        for words in black_box(&tables) {
+        for words in black_box(tables) {
             black_box(answered(judge, words));
         }
     };
-    for (name, peer) in peers {
-        let name = format!("verdict_{rows}_rows_d_{d_max}_{name}");
+    for (how, peer) in peers {
+        let name = format!("{name}_{how}");
         let (mut ours, mut peer) = (|| judge(ffi::verdict), || judge(peer));
         line(&name, TABLES, &mut ours, &mut peer);
     }
@@ -242,15 +254,19 @@ fn begun(tables: &[Vec<u32>]) -> Vec<Saved> {
 }
 
 /// Ticks of a run from fresh, against the second program's plain loops and
-/// against its bit sets, and the states they end in.
+/// against its bit sets, and the states they end in: of tables of even rows, of the
+/// same with every row deeply-red, and with every other one.
 fn ticks(rng: &mut Rng, rows: usize) -> bool {
-    let starts = begun(&busy_tables(rng, rows));
+    let tables = busy_tables(rng, rows);
     let peers: [(&str, Run); 2] = [("plain", run_plain), ("bitsets", run)];
-    let alike = |(name, peer)| {
-        let name = format!("tick_{rows}_rows_{name}");
-        timed_ticks(&name, &starts, peer)
+    let alike = |(of, tables): (&str, Vec<Vec<u32>>)| {
+        let starts = begun(&tables);
+        peers.into_iter().all(|(how, peer)| {
+            let name = format!("tick_{rows}_rows{of}_{how}");
+            timed_ticks(&name, &starts, peer)
+        })
     };
-    peers.into_iter().all(alike)
+    red::each_way(tables).into_iter().all(alike)
 }
 
 fn timed_ticks(name: &str, starts: &[Saved], peer: Run) -> bool {

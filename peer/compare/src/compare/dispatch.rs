@@ -6,7 +6,7 @@ mod runs;
 mod states;
 mod ticks;
 
-pub(super) use fresh::begun;
+pub(super) use fresh::{begun, same_fresh};
 
 use peer::answer::Answer;
 use peer::dispatch::{run_words, tick_words, well_formed_words};
@@ -28,7 +28,7 @@ pub const ALL: &[Comparison] = &[
     Comparison::drawn("dispatch_fresh_rooms", &[0, 4, 13], fresh::rooms),
     Comparison::drawn(
         "dispatch_fresh_drawn",
-        &[0, 1, 2, 3, 4, 5, 6, 7, 8, 9, 10, 13],
+        &[0, 1, 2, 3, 4, 5, 6, 7, 8, 9, 10, 13, 16],
         fresh::drawn,
     ),
     Comparison::drawn("dispatch_states_lengths", &[0, 14], states::lengths),
@@ -77,7 +77,7 @@ pub(super) struct Both {
 }
 
 impl Both {
-    fn new(rng: &mut Rng, words: &[u64]) -> Both {
+    pub(super) fn new(rng: &mut Rng, words: &[u64]) -> Both {
         Both {
             first: Lent::new(rng, words),
             peer: words.to_vec(),
@@ -104,7 +104,7 @@ impl Both {
 
     /// One tick on each side, after which the first program's numbers of met marks
     /// are those of its windows.
-    fn tick(&mut self, course: &mut Course) -> Compared {
+    pub(super) fn tick(&mut self, course: &mut Course) -> Compared {
         self.call(course, Call::Tick)?;
         kept_true(self.first.words()).map_err(Difference)
     }
@@ -142,7 +142,7 @@ fn state_shown(words: &[u64]) -> String {
 fn word_name(at: usize) -> String {
     const HEAD: [&str; HEAD_WORDS] = ["rows", "time", "idle"];
     const ROW: [&str; SAVED_ROW_WORDS] = [
-        "id", "c", "t", "d", "m", "k", "wait", "place", "work", "left", "kind", "window",
+        "id", "c", "t", "d", "m", "k", "p", "wait", "place", "work", "left", "kind", "window",
         "released", "mm", "mx", "om", "ox", "broken", "held",
     ];
     match at.checked_sub(HEAD_WORDS) {
@@ -155,7 +155,7 @@ fn word_name(at: usize) -> String {
 }
 
 /// Where the settled counts begin in a saved row; the broken count follows them.
-const MM: usize = 13;
+const MM: usize = 14;
 
 /// The idle ticks and the settled and broken counts that runs from fresh came
 /// to: a comparison in which one of them stayed 0 says nothing about it.

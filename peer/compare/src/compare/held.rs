@@ -85,7 +85,7 @@ impl Place {
 /// Every function that takes a whole state: well formed or not, a tick, a run, the
 /// counts of a row. `due` is what the rules say to the first of them; 14 is then
 /// said by all of them, and no word is altered.
-fn same_whole(course: &mut Course, words: &[u64], row: usize, due: Answer) -> Compared {
+pub(super) fn same_whole(course: &mut Course, words: &[u64], row: usize, due: Answer) -> Compared {
     let peer = well_formed_words(words);
     if peer != due {
         let (peer, due) = (shown(peer), shown(due));

@@ -24,11 +24,11 @@ use crate::lent::Lent;
 const ENOUGH: usize = 5_120;
 
 /// The longest input that the rule is asked about: it tries every beginning.
-const RULED: usize = 80;
+const RULED: usize = 90;
 
 /// All that can come of an input when the room is long enough: admitted, 11 for
 /// unschedulable, and the numbers that are printed.
-const EVERY: [u64; 12] = [0, 2, 3, 4, 5, 6, 7, 8, 9, 10, 11, 12];
+const EVERY: [u64; 13] = [0, 2, 3, 4, 5, 6, 7, 8, 9, 10, 11, 12, 16];
 
 pub const ALL: &[Comparison] = &[
     Comparison::drawn("report_samples", &[0, 11, 12, 13], inputs::samples),
@@ -50,13 +50,13 @@ pub const ALL: &[Comparison] = &[
     Comparison::drawn("report_row_numbers", &[2, 3, 12, 13], refusals::row_numbers),
     Comparison::drawn(
         "report_row_faults",
-        &[4, 5, 6, 7, 8, 9, 10, 13],
+        &[4, 5, 6, 7, 8, 9, 10, 13, 16],
         refusals::row_faults,
     ),
     Comparison::drawn("report_damaged", &EVERY, refusals::damaged),
     Comparison::drawn(
         "report_changes_every_byte",
-        &[0, 3, 12, 13],
+        &[0, 3, 12, 13, 16],
         changes::every_byte,
     ),
     Comparison::drawn(
@@ -177,7 +177,7 @@ fn same_print(
 
 /// One input into a drawn room: mostly of the length that is printed or longer,
 /// else short by one byte, by any number, or empty.
-fn same_report(course: &mut Course, input: &[u8]) -> Compared {
+pub(super) fn same_report(course: &mut Course, input: &[u8]) -> Compared {
     let printed = Printed::of(input);
     let rng = &mut course.rng;
     let needed = printed.len();

@@ -10,12 +10,15 @@ use crate::ffi;
 use crate::lent::Lent;
 
 /// The check gives these, the verdict 11 and 13 besides.
-const WORDS_REFUSED: [u64; 11] = [0, 1, 2, 3, 4, 5, 6, 7, 8, 9, 10];
+const WORDS_REFUSED: [u64; 12] = [0, 1, 2, 3, 4, 5, 6, 7, 8, 9, 10, 16];
+
+/// Words of the right number, and a row at fault.
+const ROWS_REFUSED: [u64; 9] = [0, 4, 5, 6, 7, 8, 9, 10, 16];
 
 pub const ALL: &[Comparison] = &[
     Comparison::drawn("table_lengths", &[0, 1, 2, 3, 4], lengths),
-    Comparison::drawn("table_fields", &[0, 4, 5, 6, 7, 8, 9, 10], fields),
-    Comparison::drawn("table_fault_sets", &[0, 4, 5, 6, 7, 8, 9, 10], fault_sets),
+    Comparison::drawn("table_fields", &ROWS_REFUSED, fields),
+    Comparison::drawn("table_fault_sets", &ROWS_REFUSED, fault_sets),
     Comparison::drawn("table_drawn", &WORDS_REFUSED, drawn),
 ];
 
@@ -41,16 +44,16 @@ fn same_check(course: &mut Course, words: &[u32]) -> Compared {
 }
 
 /// The check, and the verdict into a drawn room.
-fn same_table(course: &mut Course, words: &[u32]) -> Compared {
+pub fn same_table(course: &mut Course, words: &[u32]) -> Compared {
     same_check(course, words)?;
     let room = room(&mut course.rng, words.len() / ROW_WORDS);
     same_verdict(course, words, &room)
 }
 
-/// Every length to well past 192 words, and lengths whose row count has low
+/// Every length to well past 224 words, and lengths whose row count has low
 /// bits that would be in range, each with several contents.
 fn lengths(course: &mut Course) -> Compared {
-    let long = [1_530, 1_536, 1_542, 393_216, 393_222, 393_223];
+    let long = [1_785, 1_792, 1_799, 458_752, 458_759, 458_760];
     for length in (0..=300).chain(long) {
         let mut well = sound(&mut course.rng, length / ROW_WORDS + 1, T_SHORT);
         well.truncate(length);
@@ -65,7 +68,7 @@ fn lengths(course: &mut Course) -> Compared {
 
 /// Slices without any memory behind them, as a Rust caller may lend.
 fn empty_slices(course: &mut Course) -> Compared {
-    let one_row = [1, 1, 1, 1, 1, 1];
+    let one_row = [1, 1, 1, 1, 1, 1, 1];
     for words in [&[] as &[u32], &one_row] {
         let (first, peer) = (ffi::check(words), check(words));
         course.settle(peer, first == peer, || {
@@ -90,7 +93,9 @@ pub fn each_word_moved(well: &[u32], mut same: impl FnMut(&[u32]) -> Compared) -
     for at in 0..well.len() {
         let row = at / ROW_WORDS * ROW_WORDS;
         let own = &well[row..row + ROW_WORDS];
-        let near = own.iter().flat_map(|&word| [word - 1, word, word + 1]);
+        let near = own
+            .iter()
+            .flat_map(|&word| [word.wrapping_sub(1), word, word + 1]);
         let ids = well.iter().step_by(ROW_WORDS).copied();
         for value in near.chain(ids).chain(EDGES) {
             let mut words = well.to_vec();
@@ -110,7 +115,7 @@ fn fields(course: &mut Course) -> Compared {
     Ok(())
 }
 
-/// Every set of the faults 4 to 10 in one row with every set in another, the
+/// Every set of the faults 4 to 10 and 16 in one row with every set in another, the
 /// words below their ranges, above them, and drawn.
 fn fault_sets(course: &mut Course) -> Compared {
     let sets = 1 << FAULTS;

@@ -20,24 +20,24 @@ use crate::ffi;
 use crate::lent::Lent;
 
 /// All that a text can be refused for when the room is long enough.
-const READ_REFUSED: [u64; 11] = [0, 2, 3, 4, 5, 6, 7, 8, 9, 10, 12];
+const READ_REFUSED: [u64; 12] = [0, 2, 3, 4, 5, 6, 7, 8, 9, 10, 12, 16];
 
 pub const ALL: &[Comparison] = &[
     Comparison::drawn(
         "text_read_drawn",
-        &[0, 2, 3, 4, 5, 6, 7, 8, 9, 10, 13],
+        &[0, 2, 3, 4, 5, 6, 7, 8, 9, 10, 13, 16],
         reads::drawn,
     ),
     Comparison::drawn("text_read_rooms", &[0, 4, 12, 13], reads::rooms),
     Comparison::drawn(
         "text_read_values",
-        &[0, 2, 3, 4, 5, 6, 7, 8, 9, 12],
+        &[0, 2, 3, 4, 5, 6, 7, 8, 9, 12, 16],
         reads::values,
     ),
     Comparison::drawn("text_read_damaged", &READ_REFUSED, reads::damaged),
     Comparison::drawn(
         "text_changes_every_byte",
-        &[0, 2, 3, 4, 12],
+        &[0, 2, 3, 4, 12, 16],
         changes::every_byte,
     ),
     Comparison::drawn(
@@ -49,26 +49,26 @@ pub const ALL: &[Comparison] = &[
     Comparison::drawn("text_changes_lines", &[0, 12], changes::lines),
     Comparison::drawn("text_ends_early", &[0, 12], ends::early),
     Comparison::drawn("text_ends_late", &[0, 4, 12], ends::late),
-    Comparison::fixed("text_ends_special", &[0, 2, 3, 12], ends::special),
+    Comparison::fixed("text_ends_special", &[0, 2, 3, 12, 16], ends::special),
     Comparison::drawn("text_ends_far", &[2, 3, 12], ends::far),
     Comparison::drawn("text_write_lengths", &[0, 1, 2, 3, 4], writes::lengths),
     Comparison::drawn("text_write_rooms", &[0, 4, 13], writes::rooms),
     Comparison::drawn(
         "text_write_fields",
-        &[0, 4, 5, 6, 7, 8, 9, 10, 13],
+        &[0, 4, 5, 6, 7, 8, 9, 10, 13, 16],
         writes::fields,
     ),
     Comparison::drawn("text_write_values", &[0, 13], writes::values),
     Comparison::drawn(
         "text_write_drawn",
-        &[0, 1, 2, 3, 4, 5, 6, 7, 8, 9, 10, 13],
+        &[0, 1, 2, 3, 4, 5, 6, 7, 8, 9, 10, 13, 16],
         writes::drawn,
     ),
 ];
 
 /// What came of a text that both programs, and the rule, read alike: the words,
 /// or nothing.
-type Words = Result<Option<Vec<u32>>, Difference>;
+pub(super) type Words = Result<Option<Vec<u32>>, Difference>;
 
 /// Both readings of a text lent with these bytes right after it, the rule's
 /// answer, and every word and byte that was lent.
@@ -102,13 +102,13 @@ fn same_read_followed(course: &mut Course, text: &[u8], after: &[u8], room: &[u3
     Ok(peer.is_accepted().then_some(filled))
 }
 
-fn same_read(course: &mut Course, text: &[u8], room: &[u32]) -> Words {
+pub(super) fn same_read(course: &mut Course, text: &[u8], room: &[u32]) -> Words {
     same_read_followed(course, text, &[], room)
 }
 
 /// Both readings into a drawn room; a text that is accepted is written again by
 /// both, byte for byte.
-fn same_text(course: &mut Course, text: &[u8]) -> Compared {
+pub(super) fn same_text(course: &mut Course, text: &[u8]) -> Compared {
     let lines = text.iter().filter(|&&byte| byte == b'\n').count();
     let words = lines.saturating_sub(1).min(300);
     let room = room(&mut course.rng, words);
@@ -134,7 +134,7 @@ fn same_again(course: &mut Course, text: &[u8], words: &[u32]) -> Compared {
 
 /// Both writings of a table, and every word and byte that was lent for them.
 /// The text is handed on if there is one.
-fn same_write(
+pub(super) fn same_write(
     course: &mut Course,
     words: &[u32],
     room: &[u8],
@@ -166,7 +166,7 @@ fn same_write(
 }
 
 /// The text of a table, and the table of that text.
-fn same_there_and_back(course: &mut Course, words: &[u32], room: &[u8]) -> Compared {
+pub(super) fn same_there_and_back(course: &mut Course, words: &[u32], room: &[u8]) -> Compared {
     let Some(text) = same_write(course, words, room)? else {
         return Ok(());
     };

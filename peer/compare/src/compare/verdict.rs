@@ -1,14 +1,18 @@
 //! "Verdict": admitted or not, and the response times in the lent room.
 //!
-//! The judge is the second program's walk over every tick, never its leaps.
+//! The judge is the second program's walk over every tick, in which jobs are counted
+//! one by one; its leaps, which go by the formulas, must come to the same.
 
+use peer::brute::verdict::verdict;
 use peer::gen::{boundary_table, loaded_table, table, tiny_table, wide_table};
+use peer::pattern::{EVEN, RED};
 use peer::table::{ROWS_MAX, ROW_WORDS};
-use peer::verdict::verdict;
+use peer::verdict::verdict_leaping;
 
 use super::Comparison;
 use crate::course::{shown, Compared, Course};
-use crate::draw::{full_table, limit_pair, room, room_of, slow_table, sound, LimitPair, Shape};
+use crate::draw::{apart, full_table, limit_pair, room, room_of, slow_table, sound};
+use crate::draw::{LimitPair, Patterns, Shape};
 use crate::ffi;
 use crate::lent::Lent;
 
@@ -38,13 +42,14 @@ pub fn same_verdict(course: &mut Course, words: &[u32], room: &[u32]) -> Compare
     let mut lent_words = Lent::new(&mut course.rng, words);
     let mut lent_room = Lent::new(&mut course.rng, room);
     let first = ffi::verdict_lent(&mut lent_words, &mut lent_room);
-    let mut filled = room.to_vec();
+    let (mut filled, mut leapt) = (room.to_vec(), room.to_vec());
     let peer = verdict(words, &mut filled);
-    let same = first == peer && lent_words.holds(words) && lent_room.holds(&filled);
+    let alike = verdict_leaping(words, &mut leapt) == peer && leapt == filled;
+    let same = alike && first == peer && lent_words.holds(words) && lent_room.holds(&filled);
     course.settle(peer, same, || {
         format!(
             "verdict on {words:?}\nroom before {room:?}\n\
-             first {} room {:?}\npeer  {} room {filled:?}\n\
+             first {} room {:?}\npeer  {} room {filled:?}, by leaps {leapt:?}\n\
              altered beside the room {:?}\n\
              table after {:?}\naltered beside the table {:?}",
             shown(first),
@@ -82,33 +87,43 @@ fn rooms(course: &mut Course) -> Compared {
     Ok(())
 }
 
-/// Every row with T up to `t_max`, k up to `k_max` and C up to one past D.
-fn small_rows(t_max: u32, k_max: u32) -> Vec<[u32; 5]> {
+/// m, k and p of a row.
+type Pair = [u32; 3];
+
+/// Every pair with k up to `k_max`, even, and deeply-red where that is another pattern.
+fn small_pairs(k_max: u32) -> Vec<Pair> {
+    let pairs = (1..=k_max).flat_map(|k| (1..=k).map(move |m| (m, k)));
+    let both = pairs.flat_map(|(m, k)| [[m, k, EVEN], [m, k, RED]]);
+    both.filter(|&[m, k, p]| p == EVEN || apart(m, k)).collect()
+}
+
+/// Every row with T up to `t_max`, C up to one past D, and one of these pairs.
+fn small_rows(t_max: u32, pairs: &[Pair]) -> Vec<[u32; 6]> {
     let mut rows = Vec::new();
-    for (t, k) in (1..=t_max).flat_map(|t| (1..=k_max).map(move |k| (t, k))) {
-        for (d, m) in (1..=t).flat_map(|d| (1..=k).map(move |m| (d, m))) {
-            rows.extend((1..=d + 1).map(|c| [c, t, d, m, k]));
+    for (t, &[m, k, p]) in (1..=t_max).flat_map(|t| pairs.iter().map(move |pair| (t, pair))) {
+        for d in 1..=t {
+            rows.extend((1..=d + 1).map(|c| [c, t, d, m, k, p]));
         }
     }
     rows
 }
 
 /// A table of these rows, with their numbers for ids.
-fn small_table(rows: &[[u32; 5]]) -> Vec<u32> {
-    let row = |(at, row): (usize, &[u32; 5])| [&[at as u32 + 1], &row[..]].concat();
+fn small_table(rows: &[[u32; 6]]) -> Vec<u32> {
+    let row = |(at, row): (usize, &[u32; 6])| [&[at as u32 + 1], &row[..]].concat();
     rows.iter().enumerate().flat_map(row).collect()
 }
 
 /// All small tables of one, two and three rows.
 fn small(course: &mut Course) -> Compared {
-    for row in small_rows(12, 6) {
+    for row in small_rows(12, &small_pairs(6)) {
         same_drawn(course, &small_table(&[row]))?;
     }
-    let rows = small_rows(5, 4);
+    let rows = small_rows(5, &small_pairs(4));
     for (&a, &b) in rows.iter().flat_map(|a| rows.iter().map(move |b| (a, b))) {
         same_drawn(course, &small_table(&[a, b]))?;
     }
-    let rows = small_rows(3, 2);
+    let rows = small_rows(3, &[[1, 1, RED], [1, 2, EVEN], [2, 4, EVEN], [2, 4, RED]]);
     for (&a, &b) in rows.iter().flat_map(|a| rows.iter().map(move |b| (a, b))) {
         for &c in &rows {
             same_drawn(course, &small_table(&[a, b, c]))?;
@@ -146,7 +161,7 @@ fn limit(course: &mut Course) -> Compared {
             t_high: rng.word(8 * rows as u32, 3_000),
         };
         if rng.once_in(8) {
-            let words = full_table(rng, shape);
+            let words = full_table(rng, shape, Patterns::Drawn);
             same_drawn(course, &words)?;
         }
         let LimitPair { within, past } = limit_pair(&mut course.rng, shape);

@@ -3,6 +3,9 @@
 //! The limit is sought with the second program's leaping search, which is
 //! quick. It only finds cases: what is compared is judged by the walking one.
 
+use peer::dispatch::P;
+use peer::gen::draw_patterns;
+use peer::pattern::{EVEN, RED};
 use peer::rng::Rng;
 use peer::table::{ROWS_MAX, ROW_WORDS, WORD_MAX};
 use peer::verdict::verdict_leaping;
@@ -14,6 +17,30 @@ pub struct Shape {
     /// At least 4 for each row, or even the least costs may be too many.
     pub t_low: u32,
     pub t_high: u32,
+}
+
+/// Which patterns the rows of a table have.
+#[derive(Clone, Copy)]
+pub enum Patterns {
+    /// All even; nothing is drawn for it.
+    Even,
+    /// All deeply-red; nothing is drawn for it.
+    Red,
+    /// All of the one, all of the other, or mixed.
+    Drawn,
+}
+
+impl Patterns {
+    pub fn lay(self, rng: &mut Rng, words: &mut [u32]) {
+        let alike = match self {
+            Patterns::Even => EVEN,
+            Patterns::Red => RED,
+            Patterns::Drawn => return draw_patterns(rng, words),
+        };
+        for row in words.chunks_exact_mut(ROW_WORDS) {
+            row[P] = alike;
+        }
+    }
 }
 
 /// Any number of rows, with periods that leave each row some work.
@@ -35,9 +62,11 @@ pub struct LimitPair {
     pub past: Vec<u32>,
 }
 
-/// Costs grow all together until just admitted, then one row's alone.
+/// Costs grow all together until just admitted, then one row's alone; the patterns
+/// are drawn.
 pub fn limit_pair(rng: &mut Rng, shape: Shape) -> LimitPair {
-    let words = light(rng, shape);
+    let mut words = light(rng, shape);
+    Patterns::Drawn.lay(rng, &mut words);
     pair_of(rng, words)
 }
 
@@ -45,7 +74,8 @@ pub fn limit_pair(rng: &mut Rng, shape: Shape) -> LimitPair {
 /// again together: the least common multiple of all k x T is at most 576 for
 /// each row.
 pub fn short_cycle_pair(rng: &mut Rng, rows: usize) -> LimitPair {
-    let words = light_short_cycle(rng, rows);
+    let mut words = light_short_cycle(rng, rows);
+    Patterns::Drawn.lay(rng, &mut words);
     pair_of(rng, words)
 }
 
@@ -73,8 +103,10 @@ fn pair_of(rng: &mut Rng, mut words: Vec<u32>) -> LimitPair {
 }
 
 /// An admitted table in which no row's C can grow by even one.
-pub fn full_table(rng: &mut Rng, shape: Shape) -> Vec<u32> {
-    let mut words = limit_pair(rng, shape).within;
+pub fn full_table(rng: &mut Rng, shape: Shape, patterns: Patterns) -> Vec<u32> {
+    let mut words = light(rng, shape);
+    patterns.lay(rng, &mut words);
+    let mut words = pair_of(rng, words).within;
     for row in (0..shape.rows).rev() {
         grow(&mut words, row);
     }
@@ -102,7 +134,7 @@ pub fn slow_table(rng: &mut Rng) -> Vec<u32> {
         }
         t *= factor;
         let k = rng.word(1, 64);
-        words.extend([id, factor - 1, t, t, k, k]);
+        words.extend([id, factor - 1, t, t, k, k, EVEN]);
     }
     let most = WORD_MAX / t;
     let c = if rng.once_in(2) {
@@ -112,11 +144,12 @@ pub fn slow_table(rng: &mut Rng) -> Vec<u32> {
     };
     let d = (c * t + rng.word(0, 2)).saturating_sub(1);
     let d = d.clamp(1, WORD_MAX);
-    words.extend([WORD_MAX, c, rng.word(d, WORD_MAX), d, 1, 1]);
+    words.extend([WORD_MAX, c, rng.word(d, WORD_MAX), d, 1, 1, EVEN]);
+    Patterns::Drawn.lay(rng, &mut words);
     words
 }
 
-/// Rows of least cost, mostly with the shortest deadline highest.
+/// Even rows of least cost, mostly with the shortest deadline highest.
 fn light(rng: &mut Rng, shape: Shape) -> Vec<u32> {
     let mut rows: Vec<[u32; ROW_WORDS]> = Vec::with_capacity(shape.rows);
     for id in 1..=shape.rows as u32 {
@@ -129,7 +162,7 @@ fn light(rng: &mut Rng, shape: Shape) -> Vec<u32> {
         let k = if rng.once_in(3) { 64 } else { 8 };
         let k = rng.word(1, k);
         let m = if rng.once_in(4) { k } else { rng.word(1, k) };
-        rows.push([id, 1, t, d, m, k]);
+        rows.push([id, 1, t, d, m, k, EVEN]);
     }
     if !rng.once_in(8) {
         rows.sort_by_key(|row| row[3]);
@@ -137,7 +170,7 @@ fn light(rng: &mut Rng, shape: Shape) -> Vec<u32> {
     rows.concat()
 }
 
-/// Rows of least cost, each T four ticks for each row times a divisor of 12, and
+/// Even rows of least cost, each T four ticks for each row times a divisor of 12, and
 /// each k a divisor of 12.
 fn light_short_cycle(rng: &mut Rng, rows: usize) -> Vec<u32> {
     let mut words = Vec::with_capacity(rows * ROW_WORDS);
@@ -150,7 +183,7 @@ fn light_short_cycle(rng: &mut Rng, rows: usize) -> Vec<u32> {
             t
         };
         let k = rng.choose(&[1, 2, 3, 4, 6, 12]).unwrap_or(1);
-        words.extend([id, 1, t, d, rng.word(1, k), k]);
+        words.extend([id, 1, t, d, rng.word(1, k), k, EVEN]);
     }
     words
 }

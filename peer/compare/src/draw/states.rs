@@ -70,7 +70,7 @@ pub fn followed(rng: &mut Rng, good: &[u64], length: usize) -> [Vec<u64>; 3] {
     [vec![0; more], rubbish, itself].map(|after| [good, &after].concat())
 }
 
-/// Lengths on both sides of 611 words, and some that are far from it.
+/// Lengths on both sides of 643 words, and some that are far from it.
 pub fn state_lengths() -> impl Iterator<Item = usize> {
     let twice = 2 * STATE_WORDS;
     let far = [twice - 1, twice, twice + 1, 65_536 + STATE_WORDS];

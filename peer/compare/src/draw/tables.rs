@@ -1,18 +1,21 @@
 //! Tables with any number of rows, and words that are no table.
 
-use peer::gen::{faulty_table, loaded_table, table, tiny_table};
+use peer::gen::{draw_patterns, faulty_table, loaded_table, six_words_a_row};
+use peer::gen::{table, tiny_table};
+use peer::pattern::EVEN;
 use peer::rng::Rng;
 use peer::table::{ROWS_MAX, ROW_WORDS, WORD_MAX};
 
 use super::{any_shape, limit_pair, EDGES};
 
-/// Places of the words of a row: "id, C, T, D, m, k".
+/// Places of the words of a row: "id, C, T, D, m, k", and p.
 const ID: usize = 0;
 const C: usize = 1;
 const T: usize = 2;
 const D: usize = 3;
 const M: usize = 4;
 const K: usize = 5;
+const P: usize = 6;
 
 /// A well-formed table of so many rows, no period above `t_max`.
 pub fn sound(rng: &mut Rng, rows: usize, t_max: u32) -> Vec<u32> {
@@ -31,8 +34,10 @@ pub fn sound(rng: &mut Rng, rows: usize, t_max: u32) -> Vec<u32> {
             d,
             rng.word(1, k),
             k,
+            EVEN,
         ]);
     }
+    draw_patterns(rng, &mut words);
     words
 }
 
@@ -85,7 +90,8 @@ pub fn damaged(rng: &mut Rng, mut words: Vec<u32>) -> Vec<u32> {
         let rows = words.len() / ROW_WORDS;
         let row = one_row.unwrap_or_else(|| rng.index(rows));
         match rng.below(16) {
-            0 => off_six(rng, &mut words),
+            0 if rng.once_in(3) => words = six_words_a_row(&words),
+            0 => off_seven(rng, &mut words),
             1 => words.resize((33 + rng.index(8)) * ROW_WORDS, 1),
             2 | 3 => copy_id(rng, &mut words),
             _ => damage_field(rng, &mut words, row),
@@ -94,9 +100,9 @@ pub fn damaged(rng: &mut Rng, mut words: Vec<u32>) -> Vec<u32> {
     words
 }
 
-/// One to five words more or fewer.
-pub fn off_six(rng: &mut Rng, words: &mut Vec<u32>) {
-    let by = 1 + rng.index(5);
+/// One to six words more or fewer.
+pub fn off_seven(rng: &mut Rng, words: &mut Vec<u32>) {
+    let by = 1 + rng.index(6);
     if rng.once_in(2) {
         words.truncate(words.len().saturating_sub(by));
     } else {
@@ -113,7 +119,8 @@ fn copy_id(rng: &mut Rng, words: &mut [u32]) {
     }
 }
 
-/// A field of the row at an edge, or at a neighbour of T or of k.
+/// A field of the row at an edge, or at a neighbour of T or of k, or p on either side
+/// of its bound.
 fn damage_field(rng: &mut Rng, words: &mut [u32], row: usize) {
     let Some(row) = words.get_mut(row * ROW_WORDS..(row + 1) * ROW_WORDS) else {
         return;
@@ -124,6 +131,7 @@ fn damage_field(rng: &mut Rng, words: &mut [u32], row: usize) {
         (M, 0..=2) => row[K].wrapping_add(step),
         (T, 0) => row[D].wrapping_sub(step),
         (K, 0) => row[M].wrapping_sub(step),
+        (P, 0..=2) => step,
         _ => rng.choose(&EDGES).unwrap_or(0),
     };
     row[field] = value;
@@ -134,8 +142,8 @@ pub fn rubbish(rng: &mut Rng) -> Vec<u32> {
     let length = match rng.below(4) {
         0 => rng.index(300),
         1 => ROW_WORDS * rng.index(40),
-        2 => ROWS_MAX * ROW_WORDS - 5 + rng.index(12),
-        _ => rng.index(14),
+        2 => ROWS_MAX * ROW_WORDS - 6 + rng.index(14),
+        _ => rng.index(16),
     };
     let kind = rng.below(4);
     let draw = |_| match kind {
@@ -147,16 +155,17 @@ pub fn rubbish(rng: &mut Rng) -> Vec<u32> {
     (0..length).map(draw).collect()
 }
 
-/// Refusals 4 to 10, the faults that a row can have.
-pub const FAULTS: u32 = 7;
+/// Refusals 4 to 9, 16 and 10, the faults that a row can have.
+pub const FAULTS: u32 = 8;
 
-/// Lays a set of those faults into a row: bit 0 for refusal 4, up to bit 6 for
+/// Lays a set of those faults into a row: bit 0 for refusal 4, up to bit 7 for
 /// refusal 10, which takes `earlier` for its id. Each word falls short of its
-/// range, or where `over` has the fault's bit goes past it.
+/// range, or where `over` has the fault's bit goes past it; p goes far past its range
+/// or just past it.
 pub fn faults_in(row: &mut [u32], faults: u32, over: u32, earlier: u32) {
     let chosen = |fault: u32| faults >> fault & 1 == 1;
     let past = |fault: u32, end: u32| if over >> fault & 1 == 1 { end + 1 } else { 0 };
-    if chosen(6) {
+    if chosen(7) {
         row[ID] = earlier;
     }
     if chosen(0) {
@@ -176,5 +185,8 @@ pub fn faults_in(row: &mut [u32], faults: u32, over: u32, earlier: u32) {
     }
     if chosen(5) {
         row[M] = past(5, row[K]);
+    }
+    if chosen(6) {
+        row[P] = if over >> 6 & 1 == 1 { 2 } else { 99_999 };
     }
 }

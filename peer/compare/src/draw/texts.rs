@@ -13,7 +13,7 @@ pub const VALUE_MAX: u32 = 99_999;
 /// Bytes that stand in a text, their neighbours, what they are with another high
 /// bit, and what is often put beside them.
 pub const TELLING: &[u8] =
-    b"0123456789=\nrowsidctmk\r \t\0\xff/:<>\x0b-+.,;#qpnhjlxvuezRIDCTMK\xb0\xb1\xbd\x8a\xf2\x0d\x1a'\"";
+    b"0123456789=\nrowsidctmkp\r \t\0\xff/:<>\x0b-+.,;#qpnhjlxvuezRIDCTMKP\xb0\xb1\xbd\x8a\xf2\x0d\x1a'\"";
 
 /// Numbers of one to five digits, and the ends of each of those ranges; the last
 /// ones are in no range of a table, but are values.
@@ -25,8 +25,8 @@ const DIGITS: [u32; 16] = [
 /// short enough that every change to it can be tried.
 pub fn short_text(rng: &mut Rng, rows: usize) -> Vec<u8> {
     let mut words = sound(rng, rows, 99);
-    for (row, six) in words.chunks_exact_mut(ROW_WORDS).enumerate() {
-        six[0] = rng.word(1, 9) + 10 * row as u32;
+    for (row, seven) in words.chunks_exact_mut(ROW_WORDS).enumerate() {
+        seven[0] = rng.word(1, 9) + 10 * row as u32;
     }
     text_of(&words)
 }

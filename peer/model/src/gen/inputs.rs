@@ -57,7 +57,7 @@ const FIRST_LINES: [&str; 21] = [
 
 /// Each of those first lines before a sound text and before faulty ones.
 pub fn special_inputs() -> Vec<Vec<u8>> {
-    let sound = "rows=1\nid=1\nc=1\nt=2\nd=2\nm=1\nk=1\n";
+    let sound = "rows=1\nid=1\nc=1\nt=2\nd=2\nm=1\nk=1\np=0\n";
     let rests = [
         "",
         sound,
@@ -65,6 +65,8 @@ pub fn special_inputs() -> Vec<Vec<u8>> {
         "rows=33\nrubbish",
         "rows=1",
         "rows=1\nid=0",
+        "rows=1\nid=1\nc=1\nt=2\nd=2\nm=1\nk=1\n",
+        "rows=1\nid=1\nc=1\nt=2\nd=2\nm=1\nk=1\np=2\n",
     ];
     let mut inputs = Vec::new();
     for first in FIRST_LINES {

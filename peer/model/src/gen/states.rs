@@ -1,19 +1,20 @@
 //! Saved states, well formed and damaged.
 
 use super::tables::{end_or_any, table};
-use crate::dispatch::{self, HEAD_WORDS, HELD, SAVED_ROW_WORDS, STATE_WORDS, WINDOW};
+use crate::dispatch::{self, HEAD_WORDS, HELD, P, SAVED_ROW_WORDS, STATE_WORDS, WINDOW};
 use crate::rng::Rng;
 use crate::table::{TaskRow, ROWS_MAX, ROW_WORDS};
 
 /// Places of a saved row's words.
-const WAIT: usize = 6;
-const PLACE: usize = 7;
-const WORK: usize = 8;
-const LEFT: usize = 9;
-const KIND: usize = 10;
-const RELEASED: usize = 12;
-const MM: usize = 13;
-const BROKEN: usize = 17;
+const K: usize = 5;
+const WAIT: usize = 7;
+const PLACE: usize = 8;
+const WORK: usize = 9;
+const LEFT: usize = 10;
+const KIND: usize = 11;
+const RELEASED: usize = 13;
+const MM: usize = 14;
+const BROKEN: usize = 18;
 
 /// A well-formed saved state, drawn from all of them: whatever the document
 /// does not ask for is drawn freely, so that most of these states are reached by
@@ -30,13 +31,13 @@ pub fn state(rng: &mut Rng) -> Vec<u64> {
     words[0] = (table.len() / ROW_WORDS) as u64;
     words[1] = time;
     words[2] = u64::from(end_or_any(rng, 0, time as u32));
-    let (sixes, _) = table.as_chunks::<ROW_WORDS>();
+    let (sevens, _) = table.as_chunks::<ROW_WORDS>();
     let (saved, _) = words[HEAD_WORDS..].as_chunks_mut::<SAVED_ROW_WORDS>();
-    for (row, six) in saved.iter_mut().zip(sixes) {
-        for (word, field) in row.iter_mut().zip(six) {
+    for (row, seven) in saved.iter_mut().zip(sevens) {
+        for (word, field) in row.iter_mut().zip(seven) {
             *word = u64::from(*field);
         }
-        fill_row(rng, row, &TaskRow::of(six), time);
+        fill_row(rng, row, &TaskRow::of(seven), time);
     }
     words
 }
@@ -120,6 +121,7 @@ fn ends_of(good: &[u64], at: usize) -> Vec<u64> {
     ends.extend([
         u64::from(u32::MAX),
         1 << 32,
+        (1 << 32) + 1,
         now.wrapping_add(1 << 32),
         1 << 63,
         u64::MAX,
@@ -131,7 +133,7 @@ fn ends_of(good: &[u64], at: usize) -> Vec<u64> {
         // released count, a window of k marks, the marks met in it and the sum of
         // the counts.
         bounds.extend((row..row + SAVED_ROW_WORDS).map(word));
-        bounds.push(1u64.checked_shl(word(row + 5) as u32).unwrap_or(0));
+        bounds.push(1u64.checked_shl(word(row + K) as u32).unwrap_or(0));
         bounds.push(met_in(word(row + WINDOW)));
         let counts = (row + MM..row + MM + 4).map(word);
         bounds.push(counts.fold(0, u64::wrapping_add));
@@ -148,12 +150,12 @@ fn ends_of(good: &[u64], at: usize) -> Vec<u64> {
 /// A saved state with several words of one row changed at once: counts whose sum
 /// only comes out right when it overflows, a live job made or taken away, two
 /// rows with one id, a mark turned over with and without the number of met marks,
-/// a wrong length.
+/// another p, a wrong length.
 pub fn scrambled_state(rng: &mut Rng) -> Vec<u64> {
     let mut words = state(rng);
     let rows = words[0] as usize;
     let row = HEAD_WORDS + rng.index(rows) * SAVED_ROW_WORDS;
-    match rng.below(9) {
+    match rng.below(10) {
         0 => {
             // The sum comes out as it was in 32 bits or in 64, mostly by overflowing.
             let up = [1 << 31, 1 << 32, 1 << 63];
@@ -169,9 +171,10 @@ pub fn scrambled_state(rng: &mut Rng) -> Vec<u64> {
         3 => words[row] = words[HEAD_WORDS],
         4 => words.truncate(rng.index(STATE_WORDS)),
         5 => words.extend([0; 4].iter().take(1 + rng.index(4))),
-        6 | 7 => {
+        6 => words[row + P] = rng.choose(&[0, 1, 1, 2, 3, 1 << 32, u64::MAX]).unwrap_or(2),
+        7 | 8 => {
             // Mostly a mark of the window; now and then one past its k.
-            words[row + WINDOW] ^= 1 << rng.below(words[row + 5] + 1).min(63);
+            words[row + WINDOW] ^= 1 << rng.below(words[row + K] + 1).min(63);
             if rng.once_in(2) {
                 words[row + HELD] = met_in(words[row + WINDOW]);
             }

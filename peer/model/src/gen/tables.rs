@@ -1,6 +1,7 @@
 //! Tables, well formed and faulty.
 
 use super::VALUE_MAX;
+use crate::pattern::{EVEN, RED};
 use crate::rng::Rng;
 use crate::table::{TaskRow, ROWS_MAX, ROW_WORDS, WORD_MAX};
 
@@ -48,7 +49,37 @@ fn rows_of(rng: &mut Rng, count: usize, draw: fn(&mut Rng, usize) -> TaskRow) ->
         row.id = new_id(rng, &rows);
         rows.push(row);
     }
+    let patterns = patterns(rng, count);
+    for (row, p) in rows.iter_mut().zip(patterns) {
+        row.p = p;
+    }
     rows
+}
+
+/// p of so many rows: all even, all deeply-red, or each of them as it comes.
+fn patterns(rng: &mut Rng, rows: usize) -> Vec<u32> {
+    match rng.below(5) {
+        0 => vec![EVEN; rows],
+        1 => vec![RED; rows],
+        _ => (0..rows).map(|_| rng.word(EVEN, RED)).collect(),
+    }
+}
+
+/// The same laid into the rows of a table.
+pub fn draw_patterns(rng: &mut Rng, words: &mut [u32]) {
+    let (sevens, _) = words.as_chunks_mut::<ROW_WORDS>();
+    let patterns = patterns(rng, sevens.len());
+    for ([.., p], drawn) in sevens.iter_mut().zip(patterns) {
+        *p = drawn;
+    }
+}
+
+/// The table as it was before its rows had a p: six words to each of them.
+pub fn six_words_a_row(words: &[u32]) -> Vec<u32> {
+    let rows = words.chunks(ROW_WORDS);
+    rows.flat_map(|row| &row[..row.len().min(ROW_WORDS - 1)])
+        .copied()
+        .collect()
 }
 
 /// One of the two ends of a range, a neighbour of one, or any number of it.
@@ -76,6 +107,7 @@ pub fn boundary_table(rng: &mut Rng) -> Vec<u32> {
             d: end_or_any(rng, 1, t),
             m: end_or_any(rng, 1, k),
             k,
+            p: EVEN,
         }
     }))
 }
@@ -94,6 +126,7 @@ pub fn wide_table(rng: &mut Rng) -> Vec<u32> {
             d,
             m: rng.word(1, k),
             k,
+            p: EVEN,
         }
     }))
 }
@@ -104,7 +137,7 @@ pub fn tiny_table(rng: &mut Rng) -> Vec<u32> {
     words_of(&rows_of(rng, count, |rng, _| {
         let t = rng.word(1, 6);
         let d = rng.word(1, t);
-        let k = rng.word(1, 5);
+        let k = rng.word(1, 7);
         TaskRow {
             id: 0,
             c: rng.word(1, d + 1),
@@ -112,6 +145,7 @@ pub fn tiny_table(rng: &mut Rng) -> Vec<u32> {
             d,
             m: rng.word(1, k),
             k,
+            p: EVEN,
         }
     }))
 }
@@ -141,6 +175,7 @@ pub fn loaded_table(rng: &mut Rng) -> Vec<u32> {
             d,
             m,
             k,
+            p: EVEN,
         }
     });
     if !rng.once_in(4) {
@@ -171,8 +206,8 @@ fn share_out(rng: &mut Rng, rows: &mut [TaskRow]) {
 }
 
 /// Words that have one or several faults, in any order: fields out of range,
-/// ids that stand twice, lengths off by one to five, no rows, too many rows. A
-/// few are well formed all the same, a field having come to an end of its range.
+/// ids that stand twice, lengths off by one to six, six words to a row, no rows, too
+/// many rows. A few are well formed all the same, a field having come to an end of its range.
 pub fn faulty_table(rng: &mut Rng) -> Vec<u32> {
     let mut words = table(rng);
     for _ in 0..rng.between(1, 4) {
@@ -182,9 +217,12 @@ pub fn faulty_table(rng: &mut Rng) -> Vec<u32> {
             8 => damage_length(rng, &mut words),
             _ => {
                 let rows = rng.between(33, 40) as usize;
-                words = (0..rows * ROW_WORDS).map(|at| at as u32 % 7).collect();
+                words = (0..rows * ROW_WORDS).map(|at| at as u32 % 11).collect();
             }
         }
+    }
+    if rng.once_in(40) {
+        words = six_words_a_row(&words);
     }
     if rng.once_in(40) {
         words.clear();
@@ -194,17 +232,18 @@ pub fn faulty_table(rng: &mut Rng) -> Vec<u32> {
 
 /// One field of one row at an end of its range or past it.
 fn damage_field(rng: &mut Rng, words: &mut [u32]) {
-    let (sixes, _) = words.as_chunks_mut::<ROW_WORDS>();
-    let row = rng.index(sixes.len());
-    let Some([id, c, t, d, m, k]) = sixes.get_mut(row) else {
+    let (sevens, _) = words.as_chunks_mut::<ROW_WORDS>();
+    let row = rng.index(sevens.len());
+    let Some([id, c, t, d, m, k, p]) = sevens.get_mut(row) else {
         return;
     };
-    let (field, high) = match rng.below(6) {
+    let (field, high) = match rng.below(7) {
         0 => (id, WORD_MAX),
         1 => (t, WORD_MAX),
         2 => (d, *t),
         3 => (c, WORD_MAX),
         4 => (k, 64),
+        5 => (p, RED),
         _ => (m, *k),
     };
     let past = high.saturating_add(1);
@@ -221,9 +260,9 @@ pub(super) fn repeat_id(rng: &mut Rng, words: &mut [u32]) {
     }
 }
 
-/// One to five words more or fewer.
+/// One to six words more or fewer.
 fn damage_length(rng: &mut Rng, words: &mut Vec<u32>) {
-    let by = rng.between(1, 5) as usize;
+    let by = rng.between(1, 6) as usize;
     if rng.once_in(2) {
         words.truncate(words.len().saturating_sub(by));
     } else {

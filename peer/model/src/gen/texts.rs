@@ -2,6 +2,7 @@
 
 use std::sync::OnceLock;
 
+use super::seventh::seventh_line_texts;
 use super::tables::{faulty_table, repeat_id, table};
 use super::VALUE_MAX;
 use crate::rng::Rng;
@@ -52,7 +53,7 @@ pub fn damaged_text(rng: &mut Rng) -> Vec<u8> {
 
 /// Bytes that stand in texts or nearly do, and the ends 0 and 255.
 fn any_byte(rng: &mut Rng) -> u8 {
-    let likely = b"0123456789=\n\r rowsidctdmk0019\0\xff-+.,ROW\t:/";
+    let likely = b"0123456789=\n\r rowsidctdmkp0019\0\xff-+.,ROW\t:/";
     if rng.once_in(6) {
         rng.bits() as u8
     } else {
@@ -110,8 +111,8 @@ fn with_crs(text: &[u8]) -> Vec<u8> {
     out
 }
 
-/// The six lines of a sound row.
-const ROW_LINES: &str = "id=1\nc=1\nt=2\nd=2\nm=1\nk=1\n";
+/// The seven lines of a sound row.
+const ROW_LINES: &str = "id=1\nc=1\nt=2\nd=2\nm=1\nk=1\np=1\n";
 
 /// First lines, sound and not, the limits of their value among them.
 const FIRST_LINES: [&str; 30] = [
@@ -148,7 +149,8 @@ const FIRST_LINES: [&str; 30] = [
 ];
 
 /// Texts worth reading every time: each key, value and line end gone wrong once,
-/// the first line's limits with rubbish after it, ends too early and too late.
+/// the first line's limits with rubbish after it, ends too early and too late, and
+/// the line p gone wrong in each way.
 pub fn special_texts() -> Vec<Vec<u8>> {
     let one = format!("rows=1\n{ROW_LINES}");
     let mut texts = Vec::new();
@@ -168,6 +170,7 @@ pub fn special_texts() -> Vec<Vec<u8>> {
     for rest in ["", "\n", " ", "\0", "\u{ff}", "id=1\n", ROW_LINES, &one] {
         texts.push(format!("{one}{rest}").into_bytes());
     }
+    texts.extend(seventh_line_texts());
     texts
 }
 
@@ -186,9 +189,9 @@ pub fn long_texts() -> Vec<Vec<u8>> {
     ]
 }
 
-/// A table whose text has no value that could be a byte longer: 1,384 bytes.
+/// A table whose text has no value that could be a byte longer: 1,512 bytes.
 pub fn longest_table() -> Vec<u32> {
     let ids = (0..ROWS_MAX as u32).map(|row| WORD_MAX - row);
-    ids.flat_map(|id| [id, WORD_MAX, WORD_MAX, WORD_MAX, 64, 64])
+    ids.flat_map(|id| [id, WORD_MAX, WORD_MAX, WORD_MAX, 64, 64, id % 2])
         .collect()
 }

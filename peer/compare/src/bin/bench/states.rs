@@ -8,21 +8,26 @@ use peer::answer::{refusal, Answer};
 use peer::counts::{counts_words, COUNT_WORDS};
 use peer::dispatch::{from_words, tick, tick_words, to_words, Row, State, CLOCK_END};
 use peer::dispatch::{HEAD_WORDS, HELD, SAVED_ROW_WORDS, WINDOW};
-use peer::pattern::{self, K_MAX};
+use peer::pattern::{Pattern, K_MAX};
 use peer::rng::Rng;
 use peer::table::ROWS_MAX;
 
+use super::red::each_way;
 use super::{begun, busy_tables, line, Saved, ROWS, TABLES, TICKS};
 
 /// Single ticks of each of the tables.
 const SINGLE: usize = 200;
 
-/// The row that is run to the clock's end: id, C, T, D, m, k.
-const END_ROW: [u32; 6] = [1, 5, 7, 6, 3, 5];
+/// The row that is run to the clock's end: id, C, T, D, m, k, p.
+const END_ROW: [u32; 7] = [1, 5, 7, 6, 3, 5, 0];
 
 /// States in the midst of a run.
 pub fn underway(rng: &mut Rng, rows: usize) -> Vec<Saved> {
-    let mut states = begun(&busy_tables(rng, rows));
+    underway_of(&busy_tables(rng, rows))
+}
+
+fn underway_of(tables: &[Vec<u32>]) -> Vec<Saved> {
+    let mut states = begun(tables);
     for state in &mut states {
         ffi::run(state, TICKS);
     }
@@ -31,19 +36,28 @@ pub fn underway(rng: &mut Rng, rows: usize) -> Vec<Saved> {
 
 /// Calls of a single tick, each of which looks at the whole state first: against
 /// the second program on a state of its own form, and on the same words.
+///
+/// As the runs, the tables are even, then deeply-red, then mixed.
 pub fn single_ticks(rng: &mut Rng, rows: usize) -> bool {
-    let starts = underway(rng, rows);
+    let tables = busy_tables(rng, rows);
+    let alike = |(of, tables): (&str, Vec<Vec<u32>>)| {
+        let name = format!("single_tick_{rows}_rows{of}");
+        timed_single(&name, &underway_of(&tables))
+    };
+    each_way(tables).into_iter().all(alike)
+}
+
+fn timed_single(name: &str, starts: &[Saved]) -> bool {
     let own = starts.iter().map(|words| from_words(words));
     let Some(own) = own.collect::<Option<Vec<State>>>() else {
         println!("bench single_tick no states");
         return false;
     };
-    let name = format!("single_tick_{rows}_rows");
-    timed_ticks(&name, &starts, &own, tick, to_words)
+    timed_ticks(name, starts, &own, tick, to_words)
         && timed_ticks(
             &format!("{name}_words"),
-            &starts,
-            &starts,
+            starts,
+            starts,
             |words| tick_words(words),
             |words| *words,
         )
@@ -141,9 +155,10 @@ fn timed_counts(name: &str, states: &[Saved]) -> bool {
 /// from its release on, so every job is met after C ticks; the last is released so
 /// near the end that it is still live.
 fn at_clocks_end() -> Saved {
-    let [id, c, t, d, m, k] = END_ROW;
+    let [id, c, t, d, m, k, p] = END_ROW;
     let (settled, past) = (CLOCK_END / t, CLOCK_END % t);
-    let mandatory = pattern::count(m, k, settled) as u32;
+    let pattern = Pattern { m, k, p };
+    let mandatory = pattern.count(settled) as u32;
     let mut row = [Row::default(); ROWS_MAX];
     row[0] = Row {
         id,
@@ -152,11 +167,12 @@ fn at_clocks_end() -> Saved {
         d,
         m,
         k,
+        p,
         wait: t - past,
         place: (settled + 1) % k,
         work: c - past,
         left: d - past,
-        kind: (pattern::entry(m, k) >> (settled % k) & 1) as u32,
+        kind: u32::from(pattern.is_mandatory(settled)),
         window: (1 << k) - 1,
         held: k,
         released: settled + 1,

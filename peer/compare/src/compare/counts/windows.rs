@@ -60,7 +60,7 @@ impl Rows {
     /// 32 rows with more work than ticks, no two with the same period. Every job
     /// is mandatory, so that the places stay 0, which is below any k.
     fn new() -> Rows {
-        let row = |id| [id, 2, 20 + id, 20 + id, 1, 1];
+        let row = |id| [id, 2, 20 + id, 20 + id, 1, 1, id % 2];
         let table: Vec<[u32; ROW_WORDS]> = (1..=ROWS_MAX as u32).map(row).collect();
         let mut words = [0; STATE_WORDS];
         fresh_words(table.as_flattened(), &mut words);

@@ -17,7 +17,7 @@ const T_MAX: u32 = 65_535;
 
 /// Both fresh states and every word that was lent for them. The state is handed
 /// on as it stands.
-fn same_fresh(course: &mut Course, table: &[u32], room: &[u64]) -> Result<Both, Difference> {
+pub fn same_fresh(course: &mut Course, table: &[u32], room: &[u64]) -> Result<Both, Difference> {
     let mut lent = Lent::new(&mut course.rng, table);
     let mut both = Both::new(&mut course.rng, room);
     let first = ffi::fresh_lent(&mut lent, &mut both.first);
@@ -40,10 +40,10 @@ pub fn begun(course: &mut Course, table: &[u32]) -> Result<Both, Difference> {
     same_fresh(course, table, &room)
 }
 
-/// Every length of table to well past 192 words, and lengths whose row count has
+/// Every length of table to well past 224 words, and lengths whose row count has
 /// low bits that would be in range, each with several contents.
 pub fn lengths(course: &mut Course) -> Compared {
-    let long = [1_530, 1_536, 1_542, 393_216, 393_222, 393_223];
+    let long = [1_785, 1_792, 1_799, 458_752, 458_759, 458_760];
     for length in (0..=300).chain(long) {
         let mut well = sound(&mut course.rng, length / ROW_WORDS + 1, T_MAX);
         well.truncate(length);
@@ -58,7 +58,7 @@ pub fn lengths(course: &mut Course) -> Compared {
 
 /// Slices without any memory behind them, as a Rust caller may lend.
 fn empty_slices(course: &mut Course) -> Compared {
-    for table in [&[] as &[u32], &[1, 1, 1, 1, 1, 1]] {
+    for table in [&[] as &[u32], &[1, 1, 1, 1, 1, 1, 1]] {
         let first = ffi::fresh(table, &mut []);
         let peer = fresh_words(table, &mut []);
         course.settle(peer, first == peer, || {
@@ -72,7 +72,7 @@ fn empty_slices(course: &mut Course) -> Compared {
 /// Every length of room around the one needed, for every number of rows, the
 /// table sound and not.
 pub fn rooms(course: &mut Course) -> Compared {
-    let short = (0..=4).chain([32, 192, 288]);
+    let short = (0..=4).chain([32, 224, 579, 611]);
     let around = STATE_WORDS - 20..=STATE_WORDS + 40;
     let lengths: Vec<usize> = short.chain(around).chain([2 * STATE_WORDS]).collect();
     for rows in 1..=ROWS_MAX {

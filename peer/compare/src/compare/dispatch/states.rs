@@ -12,7 +12,7 @@ use crate::ffi;
 /// States whose fields are damaged in turn, well over a thousand ways each.
 const DAMAGED: u32 = 120;
 
-/// States of which every bit is turned over, 39,104 of them each.
+/// States of which every bit is turned over, 41,152 of them each.
 const TURNED: u32 = 4;
 
 /// States offered with other numbers of rows.
@@ -89,7 +89,7 @@ pub fn fields(course: &mut Course) -> Compared {
     Ok(())
 }
 
-/// Each bit of all 611 words, those past the last row included.
+/// Each bit of all 643 words, those past the last row included.
 pub fn bits(course: &mut Course) -> Compared {
     for _ in 0..TURNED {
         let good = state(&mut course.rng);

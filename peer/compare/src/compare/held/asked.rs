@@ -161,7 +161,7 @@ fn number_alone(rng: &mut Rng) -> Vec<u64> {
     words
 }
 
-/// Each bit of all 611 words turned over.
+/// Each bit of all 643 words turned over.
 pub fn bits(course: &mut Course) -> Compared {
     let good = state(&mut course.rng);
     for words in every_bit(&good) {

@@ -77,8 +77,8 @@ pub fn far(course: &mut Course) -> Compared {
     Ok(())
 }
 
-/// The longest input that is accepted, 1,396 bytes, and the longest of the form,
-/// 1,588 bytes: each for several first lines, and with a byte or more after it.
+/// The longest input that is accepted, 1,524 bytes, and the longest of the form,
+/// 1,844 bytes: each for several first lines, and with a byte or more after it.
 pub fn longest_inputs(rng: &mut Rng) -> Vec<Vec<u8>> {
     let nines = vec![99_999; ROWS_MAX * ROW_WORDS];
     let mut inputs = Vec::new();
@@ -93,7 +93,7 @@ pub fn longest_inputs(rng: &mut Rng) -> Vec<Vec<u8>> {
                 inputs.push([&good[..], &[byte], &further].concat());
             }
             for length in [
-                1_397, 1_589, 1_590, 1_600, 2_047, 2_048, 2_049, 4_096, 4_097,
+                1_525, 1_845, 1_846, 1_856, 2_047, 2_048, 2_049, 4_096, 4_097,
             ] {
                 let more = rubbish(rng, length - good.len().min(length));
                 inputs.push([&good[..], &more].concat());

@@ -122,10 +122,10 @@ pub fn misfits(course: &mut Course) -> Compared {
     for rows in 1..=ROWS_MAX {
         let rng = &mut course.rng;
         let mut light = sound(rng, rows, 9);
-        for (row, six) in light.chunks_exact_mut(ROW_WORDS).enumerate() {
-            six[1] = 1;
-            six[2] = 40 + row as u32;
-            six[3] = 32 + row as u32;
+        for (row, seven) in light.chunks_exact_mut(ROW_WORDS).enumerate() {
+            seven[1] = 1;
+            seven[2] = 40 + row as u32;
+            seven[3] = 32 + row as u32;
         }
         same_report_in(course, &input_of(100, &light), near)?;
         for row in 0..rows {
@@ -165,7 +165,7 @@ pub fn rooms(course: &mut Course) -> Compared {
 
 /// Slices without any memory behind them, as a Rust caller may lend.
 fn empty_slices(course: &mut Course) -> Compared {
-    let good = input_of(1, &[1, 1, 1, 1, 1, 1]);
+    let good = input_of(1, &[1, 1, 1, 1, 1, 1, 1]);
     for input in [&b""[..], b"ticks=0\nrows=0\n", &good] {
         let (first, peer) = (ffi::report(input, &mut []), report_into(input, &mut []));
         course.settle(peer, first == peer, || {

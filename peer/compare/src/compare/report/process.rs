@@ -223,7 +223,7 @@ pub fn far(course: &mut Course) -> Compared {
         }
     }
     for input in longest_inputs(&mut course.rng).iter().step_by(4) {
-        same_output(course, input, Way::Pieces(&[1_300, 1_395]))?;
+        same_output(course, input, Way::Pieces(&[1_428, 1_523]))?;
     }
     Ok(())
 }

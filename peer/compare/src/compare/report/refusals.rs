@@ -143,17 +143,17 @@ pub fn row_faults(course: &mut Course) -> Compared {
                 let mut words = well.clone();
                 let rng = &mut course.rng;
                 let (set, over) = match round.checked_sub(FAULTS) {
-                    None => (1 << round, rng.word(0, 127)),
-                    Some(_) => (rng.word(0, 127), rng.word(0, 127)),
+                    None => (1 << round, rng.word(0, 255)),
+                    Some(_) => (rng.word(0, 255), rng.word(0, 255)),
                 };
                 // Row 0 has no earlier row; a later one takes the id of the first.
                 let earlier = words[0];
-                let six = &mut words[row * ROW_WORDS..(row + 1) * ROW_WORDS];
-                faults_in(six, set, over, earlier);
+                let seven = &mut words[row * ROW_WORDS..(row + 1) * ROW_WORDS];
+                faults_in(seven, set, over, earlier);
                 if round % 5 == 4 {
                     let other = rng.index(rows);
-                    let six = &mut words[other * ROW_WORDS..(other + 1) * ROW_WORDS];
-                    faults_in(six, rng.word(0, 127), rng.word(0, 127), earlier);
+                    let seven = &mut words[other * ROW_WORDS..(other + 1) * ROW_WORDS];
+                    faults_in(seven, rng.word(0, 255), rng.word(0, 255), earlier);
                 }
                 let input = input_of(rng.word(0, 20), &words);
                 same_report(course, &input)?;

@@ -40,7 +40,7 @@ pub fn two_rows(course: &mut Course) -> Compared {
 }
 
 /// The same with few bytes, in texts of 32 rows: the longest that is accepted,
-/// 1,384 bytes, the longest of the form, 1,576 bytes, and a drawn one.
+/// 1,512 bytes, the longest of the form, 1,832 bytes, and a drawn one.
 pub fn longest(course: &mut Course) -> Compared {
     let drawn = sound(&mut course.rng, ROWS_MAX, 65_535);
     for words in [longest_table(), widest(&mut course.rng), drawn] {

@@ -9,7 +9,7 @@ use super::{same_again, same_read, same_read_followed, same_text};
 use crate::course::{Compared, Course};
 use crate::draw::{any_values, one_row_with, room_of, rubbish_after, sound, widest, TELLING};
 
-/// Rounds of texts far longer than 1,384 bytes.
+/// Rounds of texts far longer than 1,512 bytes.
 const FAR: u32 = 2_000;
 
 /// A room for every table that a text can hold.
@@ -37,7 +37,7 @@ pub fn early(course: &mut Course) -> Compared {
 
 /// Every byte after texts of every number of rows, and several: further rows,
 /// the text again, rubbish; the rows in range or of any values, and so up to
-/// 1,576 bytes before the fault.
+/// 1,832 bytes before the fault.
 pub fn late(course: &mut Course) -> Compared {
     for rows in 1..=ROWS_MAX {
         let well = sound(&mut course.rng, rows, WORD_MAX);
@@ -67,14 +67,14 @@ pub fn late(course: &mut Course) -> Compared {
 /// byte of every value.
 pub fn special(course: &mut Course) -> Compared {
     for text in special_texts().iter().chain(&long_texts()) {
-        for length in [0, 5, 6, 7, ROOM - 1, ROOM, ROOM + 1] {
+        for length in [0, 6, 7, 8, 13, 14, ROOM - 1, ROOM, ROOM + 1] {
             let room = room_of(&mut course.rng, length);
             same_read(course, text, &room)?;
         }
     }
     for byte in 0..=255 {
         same_text(course, &[byte])?;
-        for count in [2, 3, 7, 1_384, 1_385, 70_000] {
+        for count in [2, 3, 7, 1_512, 1_513, 70_000] {
             same_text(course, &vec![byte; count])?;
         }
     }

@@ -1,6 +1,7 @@
 //! Tables, well formed or not, written into lent rooms and read back.
 
 use peer::gen::{longest_table, table};
+use peer::pattern::{EVEN, RED};
 use peer::table::{ROWS_MAX, ROW_WORDS, WORD_MAX};
 use peer::text::{text_of, write, TEXT_MAX};
 
@@ -20,10 +21,10 @@ fn same_drawn(course: &mut Course, words: &[u32]) -> Compared {
     same_there_and_back(course, words, &room)
 }
 
-/// Every length of table to well past 192 words, and lengths whose row count has
+/// Every length of table to well past 224 words, and lengths whose row count has
 /// low bits that would be in range, each with several contents.
 pub fn lengths(course: &mut Course) -> Compared {
-    let long = [1_530, 1_536, 1_542, 393_216, 393_222, 393_223];
+    let long = [1_785, 1_792, 1_799, 458_752, 458_759, 458_760];
     for length in (0..=300).chain(long) {
         let mut well = sound(&mut course.rng, length / ROW_WORDS + 1, WORD_MAX);
         well.truncate(length);
@@ -38,7 +39,7 @@ pub fn lengths(course: &mut Course) -> Compared {
 
 /// Slices without any memory behind them, as a Rust caller may lend.
 fn empty_slices(course: &mut Course) -> Compared {
-    for words in [&[] as &[u32], &[1, 1, 1, 1, 1, 1]] {
+    for words in [&[] as &[u32], &[1, 1, 1, 1, 1, 1, 1]] {
         let (first, peer) = (ffi::write(words, &mut []), write(words, &mut []));
         course.settle(peer, first == peer, || {
             let (first, peer) = (shown(first), shown(peer));
@@ -89,9 +90,13 @@ pub fn values(course: &mut Course) -> Compared {
     for value in 1..=WORD_MAX {
         let (m, k) = pairs[value as usize % pairs.len()];
         let words = match value % 3 {
-            0 => vec![value, value, value, value, m, k],
-            1 => vec![value, 1, WORD_MAX, value, m, k],
-            _ => vec![1, value, value, 1, m, k, value, 1, value, value, 1, 64],
+            0 => vec![value, value, value, value, m, k, EVEN],
+            1 => vec![value, 1, WORD_MAX, value, m, k, RED],
+            _ => [
+                [1, value, value, 1, m, k, RED],
+                [value, 1, value, value, 1, 64, EVEN],
+            ]
+            .concat(),
         };
         let needed = text_of(&words).len();
         let room = byte_room_of(&mut course.rng, needed);
