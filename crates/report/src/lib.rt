@@ -7,14 +7,14 @@ ghost use Rattle.report.specs.Shown.{shown};
 
 pub mod print;
 
+use line::put::put_bytes;
+use line::read::Value;
+use line::read::line_at;
+use line::read::place;
 use print::print_refusal;
 use print::print_run;
 use refusal::Refusal;
 use table::WIDTH;
-use line::read::Value;
-use line::read::line_at;
-use line::read::place;
-use line::put::put_bytes;
 use text::read::Reading;
 use text::read::read;
 

@@ -16,14 +16,14 @@ use dispatch::counts::Counts;
 use dispatch::counts::counts_of;
 use dispatch::run::run_words;
 use dispatch::start::fresh_words;
+use line::put::put_bytes;
+use line::put::put_line;
 use refusal::Refusal;
 use refusal::also;
 use refusal::has_also;
 use refusal::number;
 use table::WIDTH;
 use table::task_at;
-use line::put::put_bytes;
-use line::put::put_line;
 use verdict::Verdict;
 use verdict::judge;
 
