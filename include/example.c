@@ -122,7 +122,7 @@ static void restore(void)
 {
     wanted("well", gp_well(saved, GP_STATE_WORDS));
     printf("saved: ticks=%" PRIu64 ", radio slot: work=%" PRIu64 " left=%" PRIu64 " window=%" PRIu64 "\n", saved[GP_TIME],
-           saved[GP_WORD_AT(3, GP_WORK)], saved[GP_WORD_AT(3, GP_LEFT)], saved[GP_WORD_AT(3, GP_WINDOW)]);
+           saved[GP_WORD_AT(RADIO, GP_WORK)], saved[GP_WORD_AT(RADIO, GP_LEFT)], saved[GP_WORD_AT(RADIO, GP_WINDOW)]);
     wanted("run", gp_run(saved, GP_STATE_WORDS, SECOND - SAVED_AT));
     int same = memcmp(saved, state, sizeof saved) == 0;
     printf("restored and run: ticks=%" PRIu64 ", %s\n", saved[GP_TIME], same ? "the same state" : "another state");

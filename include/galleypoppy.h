@@ -10,8 +10,8 @@
  * They can be called at the same time on different runs. The archive has no writable data, and the only outside symbols it asks for
  * are memcpy and memset.
  *
- * Stack, measured at 32 rows: gp_job, gp_word, gp_tick and gp_run lay the pattern book there, 17,112 bytes in all; gp_report also
- * holds a table, a state and what it prints, 28,296 bytes; gp_write 1,536, gp_read 1,232, gp_verdict 624, the others under 150.
+ * Stack, measured at 32 rows: gp_job, gp_word, gp_tick and gp_run lay the pattern book there, 17,096 bytes in all; gp_report also
+ * holds a table, a state and what it prints, 28,664 bytes; gp_write 1,664, gp_read 1,248, gp_verdict 624, the others under 150.
  *
  * Answers. Every function hands back two numbers. Where `refusal` is 0, the call was accepted and `value` is its answer. Otherwise
  * `refusal` is a number of documents 01 and 02 (enum gp_refusal), and `value` is the row or the place that goes with it, 0 where there
@@ -187,8 +187,8 @@ struct gp_answer gp_verdict(const uint32_t *words, size_t words_length, uint32_t
 struct gp_answer gp_fresh(const uint32_t *table, size_t table_length, uint64_t *room, size_t room_length);
 
 /*
- * Whether words are a well-formed state: the length is GP_STATE_WORDS, the words are as document 01 asks, and GP_HELD of each row is
- * the number of met marks in its window. Value: 0. A state that gp_fresh laid and only gp_tick and gp_run altered is well formed.
+ * Whether words are a well-formed state: the length is GP_STATE_WORDS, the words are as documents 01 and 02 ask, and GP_HELD of each
+ * row is the number of met marks in its window. Value: 0. A state that gp_fresh laid and only gp_tick and gp_run altered is well formed.
  * Refusals: 14.
  */
 struct gp_answer gp_well(const uint64_t *state, size_t state_length);

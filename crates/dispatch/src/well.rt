@@ -1,4 +1,4 @@
-// Whether words that a caller offers are a well-formed state: the tests of document 01 and of document 02, 2/14, and no other.
+// Whether words that a caller offers are a well-formed state: the tests of document 01 and of document 02, 2/14 and 3/14, and no other.
 ghost use mathlib.Core.Path.{_≡_};
 ghost use Prim.Native.Nat.{_≤_, _<_, _+_, _*_, _^_};
 ghost use lib.Dec.{eqb, ltb};

@@ -2,9 +2,9 @@
 use mathlib.Core.List.{List, [], _∷_, map}
 use mathlib.Core.Path.{_≡_, refl}
 use Prim.Native.Nat.{ℕ}
-use Rattle.law.specs.Sums.{ceil, firstFrom, largest, among, mapFrom, sum, bitsTo}
-use Rattle.law.specs.Pattern.{mandatory, count, word}
-use Rattle.law.specs.Table.{Task, kindOf, countOf}
+use Rattle.law.specs.Sums.{bit, ceil, firstFrom, largest, among, mapFrom, sum, bitsTo}
+use Rattle.law.specs.Pattern.{mandatory, count, deeplyRed, redCount, word}
+use Rattle.law.specs.Table.{Task, kindOf, countOf, wordOf}
 use Rattle.law.specs.Verdict.{demand, load, fitsAt, response}
 use Rattle.law.specs.Tick.{Row, fresh, release, nextPlace, choose, outcome, advance, shifted, marks, spare, settled, releaseAll, advanceAll, finish, begin, tick, run}
 use Rattle.law.specs.Promise.{stateAfter, during, settling, took}
@@ -33,3 +33,16 @@ words = refl
 spares : spare 1 3 4 ∷ spare 1 3 1 ∷ [] ≡ 0 ∷ 2 ∷ []
 unfolding spare largest marks among
 spares = refl
+
+-- Document 02, 3/14, with (2,4): "the first m of every k jobs are mandatory"; the counts of the first 0 to 6 jobs; the word
+reds : map (λ a. bit (deeplyRed 2 4 a)) (0 ∷ 1 ∷ 2 ∷ 3 ∷ 4 ∷ 5 ∷ []) ≡ 1 ∷ 1 ∷ 0 ∷ 0 ∷ 1 ∷ 1 ∷ []
+unfolding deeplyRed
+reds = refl
+
+red-counts : map (redCount 2 4) (0 ∷ 1 ∷ 2 ∷ 3 ∷ 4 ∷ 5 ∷ 6 ∷ []) ≡ 0 ∷ 1 ∷ 2 ∷ 2 ∷ 2 ∷ 3 ∷ 4 ∷ []
+unfolding redCount
+red-counts = refl
+
+red-word-is : wordOf (record { id = 1; c = 1; t = 1; d = 1; m = 2; k = 4; p = 1 }) ≡ 3
+unfolding wordOf kindOf deeplyRed bitsTo
+red-word-is = refl

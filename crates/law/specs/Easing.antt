@@ -17,7 +17,8 @@ pub record Evened (before after : List Task) : Type 0 where
   pub many : length after ≡ length before
   pub each : (i : ℕ) → i < length before → (row after i ≡ row before i) ⊎ (row after i ≡ evenRow (row before i))
 
--- what is kept from one table to another: it is well formed, it is admitted if the first is, and no row's response time grows
+-- what is kept from one table to another: it is well formed, it is admitted if the first is, and no row's response time grows (D + 1 where a
+-- row does not fit)
 pub record Eased (before after : List Task) : Type 0 where
   pub well-formed : WellFormed after
   pub still-admitted : admitted before ≡ true → admitted after ≡ true

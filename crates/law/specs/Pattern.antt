@@ -26,7 +26,8 @@ count m k q = ceil (q * m) k
 unfoldable pub deeplyRed : ℕ → ℕ → ℕ → Bool
 deeplyRed m k a = ltb (a % k) m
 
--- "The mandatory count of the first q jobs is then floor(q / k) x m plus the smaller of q mod k and m". That it is, is proved (`red`, proofs/Pattern)
+-- "The mandatory count of the first q jobs is then floor(q / k) x m plus the smaller of q mod k and m". That it is, is proved
+-- (`red`, proofs/Red)
 unfoldable pub redCount : ℕ → ℕ → ℕ → ℕ
 redCount m k q = q / k * m + smaller (q % k) m
 

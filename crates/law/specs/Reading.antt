@@ -77,7 +77,7 @@ abbrev pub valuesOf : Found → List ℕ
 valuesOf (found values next) = values
 valuesOf (fault j) = []
 
--- "the remaining lines (12), rows (4 to 10), 13"; else the number of rows
+-- "the remaining lines (12), rows (4 to 10), 13" (16 before 10); else the number of rows
 abbrev pub rowsAnswer : ℕ → Found → Answer
 rowsAnswer room (found words next) =
     after (rowsChecked (tableOf words)) (orRefused (leb (length words) room) (refused 13 []) (accepted (length (tableOf words) ∷ [])))

@@ -5,7 +5,7 @@ use Prim.Native.Nat.{ℕ}
 use lib.Dec.{leb}
 use Rattle.law.specs.Sums.{both}
 
--- What a call answers. Accepted: with the values it gives. Refused: by its number in the table of document 01, and "also returned" the
+-- What a call answers. Accepted: with the values it gives. Refused: by its number in the table of document 01 or in document 02, and "also returned" the
 -- row or the place, where there is one.
 pub data Answer : Type 0 where
   accepted : List ℕ → Answer

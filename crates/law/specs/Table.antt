@@ -57,7 +57,7 @@ countOf r q = pick (isRed r) (redCount (r .m) (r .k) q) (count (r .m) (r .k) q)
 unfoldable pub wordOf : Task → ℕ
 wordOf r = bitsTo (kindOf r) (r .k)
 
--- "Ranges: id 1..65535 ..; T 1..65535; D 1..T; C 1..65535; k 1..64; m 1..k"; p 0..1
+-- "Ranges: id 1..65535 ..; T 1..65535; D 1..T; C 1..65535; k 1..64; m 1..k"; p "0 for even, 1 for deeply-red"
 pub record Ranged (r : Task) : Type 0 where
   pub id-low : 1 ≤ r .id
   pub id-high : r .id ≤ 65535
@@ -109,7 +109,7 @@ rowsChecked tasks =
     orRefused (eqb (faulty tasks) (length tasks)) (refused (rowFault tasks (faulty tasks)) (faulty tasks ∷ []))
     (accepted (length tasks ∷ []))
 
--- "for words 1, 2, 3, then row by row 4 to 10"
+-- "for words 1, 2, 3, then row by row 4 to 10" (16 before 10); "1 reads 'of seven'"
 unfoldable pub checked : List ℕ → Answer
 checked words =
     orRefused (eqb (length words % width) 0) (refused 1 [])

@@ -41,7 +41,7 @@ admitted tasks = eqb (misfit tasks) (length tasks)
 unfoldable pub responses : List Task → List ℕ
 responses tasks = build (response tasks) (length tasks)
 
--- "for words 1, 2, 3, then row by row 4 to 10 .., then 13, then 11"
+-- "for words 1, 2, 3, then row by row 4 to 10 .., then 13, then 11" (16 before 10)
 unfoldable pub verdict : List ℕ → ℕ → Answer
 verdict words room =
     after (checked words)

@@ -1,4 +1,4 @@
--- P1 to P12: every case of the table gives what document 01 says, all by one computation; and P9 for every number of ticks.
+-- P1 to P12 and cases of document 02: every case of the table gives what the documents say, all by one computation; and P9 for every number of ticks.
 use mathlib.Core.List.{List, [], _∷_, map}
 use mathlib.Core.Path.{_≡_, refl, ap, _∙_}
 use Rattle.law.specs.Sums.{ceil, sum, firstFrom, build, mapFrom, among}

@@ -13,7 +13,7 @@ pub record WithEven (table evened : List ℕ) : Type 0 where
   pub long : length evened ≡ length table
   pub rows : Evened (tableOf table) (tableOf evened)
 
--- `verdict::judge` answers the same, and no response time that it wrote grows
+-- of a table that `verdict::judge` admits: it answers the same, and no response time that it wrote grows
 pub record EvenToo (table evened room : List ℕ) : Type 0 where
   pub answer : verdict evened (length room) ≡ verdict table (length room)
   pub no-longer : (i : ℕ) → i < rowsIn table → reported evened room i ≤ reported table room i

@@ -1,4 +1,5 @@
--- Document 01, "Examples on each side of a limit": P1 to P12 as one table, each case with what the definitions must give.
+-- Document 01, "Examples on each side of a limit": P1 to P12, and cases of document 02, 3/14, as one table, each case with what the definitions must
+-- give.
 use mathlib.Core.Bool.{Bool}
 use mathlib.Core.List.{List, [], _∷_, _++_, map}
 use mathlib.Core.Path.{_≡_}
@@ -12,8 +13,8 @@ use Rattle.law.specs.Verdict.{load, verdict, verdictRoom}
 use Rattle.law.specs.Tick.{Outcome, nothing, met, missed}
 use Rattle.law.specs.Promise.{stateAfter, settling}
 
--- What an example asks: which of the first n jobs of (m,k) are mandatory, by the even pattern or the deeply-red one; the verdict on words, with a room of 32 words; the load of row i at t;
--- what becomes of row i at time u.
+-- What an example asks: which of the first n jobs of (m,k) are mandatory, by the even pattern or the deeply-red one; the verdict on words, with a
+-- room of 32 words; the load of row i at t; what becomes of row i at time u.
 pub data Example : Type 0 where
   jobs : ℕ → ℕ → ℕ → Example
   reds : ℕ → ℕ → ℕ → Example
@@ -92,14 +93,16 @@ cases =
     ∷ gives (judged (rowWith 1 1 1 1 1 1 ++ (1 ∷ []))) (1 ∷ [])
     -- P12 row 0 with k 65, row 1 with id 0: 8, row 0
     ∷ gives (judged (rowWith 1 1 1 1 1 65 ++ rowWith 0 1 1 1 1 1)) (8 ∷ 0 ∷ [])
-    -- Document 02, 3/14: "the first m of every k jobs are mandatory": (2,4), of jobs 0..9, jobs 0, 1, 4, 5, 8, 9. Against an even row 0 of (2,4) row 1
-    -- fits at 6; against a deeply-red one, which brings two jobs by then, it does not
+    -- Document 02, 3/14: "the first m of every k jobs are mandatory": (2,4), of jobs 0..9, jobs 0, 1, 4, 5, 8, 9. Against an even row 0 of (2,4)
+    -- row 1 fits at 6; against a deeply-red one, which brings two jobs by then, it does not; and in a run its first job is met at 6, or missed
     ∷ gives (reds 2 4 10) (0 ∷ 1 ∷ 4 ∷ 5 ∷ 8 ∷ 9 ∷ [])
     ∷ gives (judged (rowOf 11 2 4 4 2 4 0 ++ rowWith 12 4 6 6 2 3)) (0 ∷ 2 ∷ 6 ∷ [])
     ∷ gives (judged (rowOf 11 2 4 4 2 4 1 ++ rowWith 12 4 6 6 2 3)) (11 ∷ 1 ∷ [])
     ∷ gives (judged (rowOf 11 2 4 4 2 4 1 ++ rowWith 12 2 6 6 2 3)) (0 ∷ 2 ∷ 4 ∷ [])
-    -- "16, p above 1, with its row, comes after 9 and before 10": m 0 and p 2; p 2 and an id that stands in row 0. Seven rows of six words are no table
-    -- of six rows: the first number of the second row is taken for p
+    ∷ gives (settled (rowOf 11 2 4 4 2 4 0 ++ rowWith 12 4 6 6 2 3) 1 6) (1 ∷ [])
+    ∷ gives (settled (rowOf 11 2 4 4 2 4 1 ++ rowWith 12 4 6 6 2 3) 1 6) (2 ∷ [])
+    -- "16, p above 1, with its row, comes after 9 and before 10": m 0 and p 2; p 2 and an id that stands in row 0. These seven rows of six words are
+    -- judged as six rows of seven: the id of the second row is taken for p
     ∷ gives (judged (rowOf 1 1 1 1 0 1 2)) (9 ∷ 0 ∷ [])
     ∷ gives (judged (rowWith 1 1 1 1 1 1 ++ rowOf 1 1 1 1 1 1 2)) (16 ∷ 1 ∷ [])
     ∷ gives (judged (rowWith 1 1 1 1 1 1 ++ rowOf 1 1 1 1 1 1 1)) (10 ∷ 1 ∷ [])
@@ -107,7 +110,7 @@ cases =
     ∷ gives (judged (sixWords 6)) (1 ∷ [])
     ∷ []
 
--- The one statement: every case of the table gives what document 01 says, and P9 is "never idle", however long it runs.
+-- The one statement: every case of the table gives what the documents say, and P9 is "never idle", however long it runs.
 pub record ExamplesHold : Type 0 where
   pub table : map (λ (c : Case). shown (c .example)) cases ≡ map (λ (c : Case). c .expected) cases
   pub never-idle : (n : ℕ) → stateAfter (tableOf (rowWith 1 1 1 1 1 1)) n .idle ≡ 0

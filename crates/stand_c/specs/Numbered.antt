@@ -3,6 +3,6 @@ use Rattle.law.specs.Refusal.{codeOf, valueOf}
 use Rattle.law.specs.Refusal as law
 use Rattle.stand_c.specs.declared.Answer.{Answer}
 
--- 0 and the answer's value, or the refusal's number in document 01 and its row or place, 0 where there is none
+-- 0 and the answer's value, or the refusal's number in documents 01 and 02 and its row or place, 0 where there is none
 abbrev pub numbered : law.Answer → Answer
 numbered a = record { refusal = codeOf a; value = valueOf a }

@@ -22,8 +22,8 @@ use text::read::Reading;
 use text::write::Written;
 use verdict::Verdict;
 
-// Every answer: `refusal` is 0 and `value` the answer's value, or `refusal` is the number that document 01 gives the
-// refusal and `value` the row or the place that goes with it, 0 where there is none.
+// Every answer: `refusal` is 0 and `value` the answer's value, or `refusal` is the number that documents 01 and 02 give
+// the refusal and `value` the row or the place that goes with it, 0 where there is none.
 #[repr(C)]
 pub struct Answer {
     pub refusal: u64,
@@ -100,7 +100,7 @@ pub extern "C" fn gp_verdict(words: &[u32], room: &mut [u32]) -> Answer
     }
 }
 
-// A task text read into words: its number of rows, and six words a row in the first words of the room.
+// A task text read into words: its number of rows, and seven words a row in the first words of the room.
 #[no_mangle]
 pub extern "C" fn gp_read(text: &[u8], room: &mut [u32]) -> Answer
     ensures answer { λ a. ⌜ a ≡ numbered (readAnswer (now (text .entry)) (length (now (room .entry)))) ⌝ }

@@ -76,6 +76,7 @@ pub fn row_fault(r: Task, twice: bool) -> u64
     if !is_within(1, r.k, r.m) {
         return 9;
     }
+    // p is neither even nor deeply-red
     let other = 1 < r.p;
     if other {
         return 16;

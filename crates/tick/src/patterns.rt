@@ -1,4 +1,4 @@
-// The pattern words of a state's rows, fetched once for a run, from a book that is laid once.
+// The pattern words of a state's rows, made once for a run: from a book that is laid once, or of low bits.
 ghost use mathlib.Core.Path.{_≡_};
 ghost use Prim.Native.Nat.{_<_};
 ghost use lib.ListN.{length};

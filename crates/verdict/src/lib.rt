@@ -41,7 +41,7 @@ fn even_count(m: u64, k: u64, q: u64) -> u64
     (q * m + (k - 1)) / k
 }
 
-// How many of the first q jobs of a deeply-red pattern are: m of every k, and of the last q mod k as many as are left of m.
+// How many of the first q jobs of a deeply-red pattern are: m of every whole k, and of the q mod k after them the smaller of that number and m.
 fn red_count(m: u64, k: u64, q: u64) -> u64
     requires { ⌜ (InRange m k) × (q ≤ 65535) ⌝ }
     ensures { λ r. ⌜ r ≡ redCount m k q ⌝ }

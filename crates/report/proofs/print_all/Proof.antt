@@ -79,8 +79,8 @@ good w = sym (sym (ap shown (w .rows .given .1)) ∙ reading (readOf w))
 trip : (w : tie.After-rows) → Trip (text (readOf w)) 224 (w .rows .given .0 .0 ∷ [])
 trip w = read-write (text (readOf w)) 224 _ (good w)
 
-six : (w : tie.After-rows) → length (wordsRead (text (readOf w))) ≡ w .rows .given .0 .0 * 7
-six w = let t = trip w in t .whole ∙ ap (λ (z : List ℕ). head z * 7) (sym (t .rows))
+whole-rows : (w : tie.After-rows) → length (wordsRead (text (readOf w))) ≡ w .rows .given .0 .0 * 7
+whole-rows w = let t = trip w in t .whole ∙ ap (λ (z : List ℕ). head z * 7) (sym (t .rows))
 
 laid : (w : tie.After-rows) → readOf w .read .last .1 .0 ≡ wordsRead (text (readOf w)) ++ drop (length (wordsRead (text (readOf w)))) (replicate 224 0)
 laid w = filled (readOf w) ∙ read-filled (text (readOf w)) (replicate 224 0) (good w)
@@ -88,7 +88,7 @@ laid w = filled (readOf w) ∙ read-filled (text (readOf w)) (replicate 224 0) (
 front : (w : tie.After-rows) → take (w .rows .given .0 .0 * 7) (readOf w .read .last .1 .0) ≡ wordsRead (text (readOf w))
 front w =
     ap (take (w .rows .given .0 .0 * 7)) (laid w)
-    ∙ take-at (wordsRead (text (readOf w))) _ (w .rows .given .0 .0 * 7) (six w)
+    ∙ take-at (wordsRead (text (readOf w))) _ (w .rows .given .0 .0 * 7) (whole-rows w)
 
 -- a refused one
 refusedOf : (r : tie.After-r) → readAnswer (text (r .before .before .before)) 224 ≡ refused (numberOf (r .r .given .0 .0)) (alsoOf (r .r .given .0 .0))
@@ -146,15 +146,15 @@ enum-known-rows : tie.Need-enum-known-rows
 enum-known-rows c = search needs
 
 mul-words : tie.Need-mul-words
-mul-words c = let w = c .before .before in omega (arith, six w, trip w .fits)
+mul-words c = let w = c .before .before in omega (arith, whole-rows w, trip w .fits)
 
 array-share-prefix-words : tie.Need-array-share-prefix-words
 array-share-prefix-words c =
     let w = c .before .before in
-    omega (arith, ap length (laid w), length-append (wordsRead (text (readOf w))) (drop (length (wordsRead (text (readOf w)))) (replicate 224 0)), six w)
+    omega (arith, ap length (laid w), length-append (wordsRead (text (readOf w))) (drop (length (wordsRead (text (readOf w)))) (replicate 224 0)), whole-rows w)
 
 slice-aggregate-print-run : tie.Need-slice-aggregate-print-run
-slice-aggregate-print-run c = let w = c .before .before .before in sym (ap length (front w) ∙ six w)
+slice-aggregate-print-run c = let w = c .before .before .before in sym (ap length (front w) ∙ whole-rows w)
 
 cast-print-run : tie.Need-cast-print-run
 cast-print-run c = let a = answered (readOf (c .before .before .before)) in omega (arith, line-small _ 0 ticksKey (line a))
