@@ -190,3 +190,13 @@ fn broken_after_the_last_spare_miss() {
     }
     assert!(spared > 100_000, "{spared}");
 }
+
+#[test]
+fn spare_marks() {
+    assert_eq!(spare(0, 0, 0), 0);
+    assert_eq!(spare(0, 1, 4), 0);
+    assert_eq!(spare(0b1011, 2, 4), 2);
+    assert_eq!(spare(0b1011, 3, 4), 0);
+    assert_eq!(spare(u64::MAX, 1, 64), 63);
+    assert_eq!(spare(u64::MAX, u32::MAX, 64), 0);
+}

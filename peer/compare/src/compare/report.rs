@@ -128,6 +128,31 @@ impl Printed {
             Some(Some(refused)) => refused.as_bytes() == self.bytes,
         }
     }
+
+    /// What is due of it in a room that was so before.
+    fn due_in(&self, room: &[u8]) -> Due {
+        let mut room = room.to_vec();
+        let (answer, counted) = match room.get_mut(..self.len()) {
+            Some(start) => {
+                start.copy_from_slice(&self.bytes);
+                let answer = Answer::accepted(self.len() as u64);
+                (answer, outcome(&self.bytes))
+            }
+            None => (Answer::refused(13), Answer::refused(13)),
+        };
+        Due {
+            answer,
+            counted,
+            room,
+        }
+    }
+}
+
+/// The second program's answer, what the case is counted under, and the room after.
+struct Due {
+    answer: Answer,
+    counted: Answer,
+    room: Vec<u8>,
 }
 
 /// The first program's answer for an input lent with these bytes right after it,
@@ -143,17 +168,9 @@ fn same_print(
     let short = vec![b'.'; printed.len().saturating_sub(room.len())];
     let mut lent_room = Lent::followed(&mut course.rng, room, &short);
     let first = ffi::report_lent(&mut lent_input, &mut lent_room);
-    let mut filled = room.to_vec();
-    let (peer, counted) = match filled.get_mut(..printed.len()) {
-        Some(start) => {
-            start.copy_from_slice(&printed.bytes);
-            let peer = Answer::accepted(printed.len() as u64);
-            (peer, outcome(&printed.bytes))
-        }
-        None => (Answer::refused(13), Answer::refused(13)),
-    };
-    let same = first == peer && lent_input.holds(input) && lent_room.holds(&filled);
-    course.settle(counted, same && printed.is_ruled(), || {
+    let due = printed.due_in(room);
+    let same = first == due.answer && lent_input.holds(input) && lent_room.holds(&due.room);
+    course.settle(due.counted, same && printed.is_ruled(), || {
         format!(
             "input of {} bytes, followed by {}:\n{}\nroom of {} bytes before: {}\n\
              first {} room {}\npeer  {} room {}\nrule  {:?}\naltered beside the room {:?}\n\
@@ -165,8 +182,8 @@ fn same_print(
             room.escape_ascii(),
             shown(first),
             lent_room.words().escape_ascii(),
-            shown(peer),
-            filled.escape_ascii(),
+            shown(due.answer),
+            due.room.escape_ascii(),
             printed.rule,
             lent_room.altered_beside(),
             lent_input.words().escape_ascii(),

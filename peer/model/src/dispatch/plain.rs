@@ -1,6 +1,7 @@
 //! The run without bit sets.
 
-use super::{end_of_run, patterns_of, release, settle, Row, State};
+use super::steps::{end_of_run, patterns_of, release, settle};
+use super::{Row, State};
 use crate::answer::Answer;
 use crate::table::ROWS_MAX;
 

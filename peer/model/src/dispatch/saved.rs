@@ -1,9 +1,26 @@
 //! The saved form of a state, and what is asked of it in that form.
 
 use super::{fresh, run, well_formed, Row, State};
-use super::{HEAD_WORDS, HELD, P, SAVED_ROW_WORDS, STATE_WORDS, WINDOW};
 use crate::answer::{refusal, Answer};
-use crate::table::ROWS_MAX;
+use crate::table::{ROWS_MAX, ROW_WORDS};
+
+/// Words before the rows of a saved state: rows, time, idle.
+pub const HEAD_WORDS: usize = 3;
+
+/// Words of one saved row: id, c, t, d, m, k, p, wait, place, work, left, kind,
+/// window, released, mm, mx, om, ox, broken, held.
+pub const SAVED_ROW_WORDS: usize = 20;
+
+/// Where p stands in a saved row, the last of its table's words.
+pub const P: usize = ROW_WORDS - 1;
+
+/// Where the number of met marks stands in a saved row, and the window that it is
+/// the number of.
+pub const HELD: usize = 19;
+pub const WINDOW: usize = 12;
+
+/// Words of a saved state: always room for 32 rows.
+pub const STATE_WORDS: usize = HEAD_WORDS + ROWS_MAX * SAVED_ROW_WORDS;
 
 /// The saved form of a state: [rows, time, idle], then 32 rows of 20 words.
 pub fn to_words(state: &State) -> [u64; STATE_WORDS] {

@@ -2,8 +2,9 @@
 
 use std::sync::OnceLock;
 
+use super::faulty::{faulty_table, repeat_id};
 use super::seventh::seventh_line_texts;
-use super::tables::{faulty_table, repeat_id, table};
+use super::tables::table;
 use super::VALUE_MAX;
 use crate::rng::Rng;
 use crate::table::{ROWS_MAX, ROW_WORDS, WORD_MAX};

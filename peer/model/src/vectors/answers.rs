@@ -40,25 +40,12 @@ pub fn answer(case: &[u64]) -> Option<Vec<u64>> {
         }
         [7, room, n, at, value, row, counts, ref words @ ..] => {
             let state = begun(&mut out, [room, n, at, value], words)?;
-            let mut counted = wide_room(counts, COUNT_ROOM_MAX)?;
-            push(&mut out, counts_words(&state, small(row)?, &mut counted));
-            out.extend(counted);
+            let room = wide_room(counts, COUNT_ROOM_MAX)?;
+            counted(&mut out, room, &state, small(row)?);
         }
-        [8, room, ref text @ ..] => {
-            let mut words = vec![BEFORE; length(room, WORDS_MAX)?];
-            push(&mut out, text::read(&bytes(text)?, &mut words));
-            out.extend(words.into_iter().map(u64::from));
-        }
-        [9, room, ref words @ ..] => {
-            let mut written = byte_room(room)?;
-            push(&mut out, text::write(&table(words)?, &mut written));
-            out.extend(written.into_iter().map(u64::from));
-        }
-        [10, room, ref input @ ..] => {
-            let mut printed = byte_room(room)?;
-            push(&mut out, report_into(&bytes(input)?, &mut printed));
-            out.extend(printed.into_iter().map(u64::from));
-        }
+        [8, room, ref text @ ..] => read(&mut out, length(room, WORDS_MAX)?, &bytes(text)?),
+        [9, room, ref words @ ..] => written(&mut out, byte_room(room)?, &table(words)?),
+        [10, room, ref input @ ..] => printed(&mut out, byte_room(room)?, &bytes(input)?),
         [11, room, n, at, value, row, ref words @ ..] => {
             let state = begun(&mut out, [room, n, at, value], words)?;
             push(&mut out, held_words(&state, small(row)?));
@@ -114,6 +101,27 @@ fn word(m: u32, k: u32) -> Answer {
 fn judged(out: &mut Vec<u64>, length: usize, words: &[u32]) {
     let mut room = vec![BEFORE; length];
     push(out, verdict(words, &mut room));
+    out.extend(room.into_iter().map(u64::from));
+}
+
+fn counted(out: &mut Vec<u64>, mut room: Vec<u64>, state: &[u64], row: u32) {
+    push(out, counts_words(state, row, &mut room));
+    out.extend(room);
+}
+
+fn read(out: &mut Vec<u64>, length: usize, text: &[u8]) {
+    let mut room = vec![BEFORE; length];
+    push(out, text::read(text, &mut room));
+    out.extend(room.into_iter().map(u64::from));
+}
+
+fn written(out: &mut Vec<u64>, mut room: Vec<u8>, words: &[u32]) {
+    push(out, text::write(words, &mut room));
+    out.extend(room.into_iter().map(u64::from));
+}
+
+fn printed(out: &mut Vec<u64>, mut room: Vec<u8>, input: &[u8]) {
+    push(out, report_into(input, &mut room));
     out.extend(room.into_iter().map(u64::from));
 }
 

@@ -12,7 +12,8 @@ use peer::rng::Rng;
 use peer::table::ROWS_MAX;
 
 use super::states::underway;
-use super::{line, line_beside, Saved, TABLES};
+use super::tables::{Saved, TABLES};
+use super::timing::{line, line_beside};
 
 /// Rows asked about in one pass.
 const ASKED: usize = TABLES * ROWS_MAX;

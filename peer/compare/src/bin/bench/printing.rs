@@ -11,7 +11,7 @@ use compare::ffi;
 use compare::place::{sample, stand, Sample};
 use peer::report::{report_into, report_leaping_into};
 
-use super::line;
+use super::timing::line;
 
 /// Bytes that are always room enough, by the first program's own word.
 const ENOUGH: usize = 5_120;

@@ -6,7 +6,8 @@ use peer::pattern::{EVEN, RED};
 use peer::rng::Rng;
 use peer::table::ROW_WORDS;
 
-use super::{tables_of, timed_verdicts};
+use super::tables::tables_of;
+use super::verdicts::timed_verdicts;
 
 /// Rows of the tables for the verdict.
 const ROWS: usize = 16;

@@ -1,25 +1,21 @@
-//! Single ticks, the counts of a row, and a run to the clock's end.
+//! Single ticks, and the counts of a row.
 
 use std::hint::black_box;
-use std::time::Instant;
 
 use compare::ffi;
-use peer::answer::{refusal, Answer};
+use peer::answer::Answer;
 use peer::counts::{counts_words, COUNT_WORDS};
-use peer::dispatch::{from_words, tick, tick_words, to_words, Row, State, CLOCK_END};
+use peer::dispatch::{from_words, tick, tick_words, to_words, State};
 use peer::dispatch::{HEAD_WORDS, HELD, SAVED_ROW_WORDS, WINDOW};
-use peer::pattern::{Pattern, K_MAX};
+use peer::pattern::K_MAX;
 use peer::rng::Rng;
-use peer::table::ROWS_MAX;
 
 use super::red::each_way;
-use super::{begun, busy_tables, line, Saved, ROWS, TABLES, TICKS};
+use super::tables::{begun, busy_tables, Saved, ROWS, TABLES, TICKS};
+use super::timing::line;
 
 /// Single ticks of each of the tables.
 const SINGLE: usize = 200;
-
-/// The row that is run to the clock's end: id, C, T, D, m, k, p.
-const END_ROW: [u32; 7] = [1, 5, 7, 6, 3, 5, 0];
 
 /// States in the midst of a run.
 pub fn underway(rng: &mut Rng, rows: usize) -> Vec<Saved> {
@@ -149,58 +145,4 @@ fn timed_counts(name: &str, states: &[Saved]) -> bool {
     };
     line(name, TABLES * ROWS, &mut ours, &mut peer);
     true
-}
-
-/// The state of one row alone at the clock's end. Each job of it has the processor
-/// from its release on, so every job is met after C ticks; the last is released so
-/// near the end that it is still live.
-fn at_clocks_end() -> Saved {
-    let [id, c, t, d, m, k, p] = END_ROW;
-    let (settled, past) = (CLOCK_END / t, CLOCK_END % t);
-    let pattern = Pattern { m, k, p };
-    let mandatory = pattern.count(settled) as u32;
-    let mut row = [Row::default(); ROWS_MAX];
-    row[0] = Row {
-        id,
-        c,
-        t,
-        d,
-        m,
-        k,
-        p,
-        wait: t - past,
-        place: (settled + 1) % k,
-        work: c - past,
-        left: d - past,
-        kind: u32::from(pattern.is_mandatory(settled)),
-        window: (1 << k) - 1,
-        held: k,
-        released: settled + 1,
-        mm: mandatory,
-        om: settled - mandatory,
-        ..Row::default()
-    };
-    to_words(&State {
-        rows: 1,
-        time: CLOCK_END,
-        idle: settled * (t - c),
-        row,
-    })
-}
-
-/// From time 0 to the clock's end in one call, the state there, and no tick more.
-pub fn clocks_end() -> bool {
-    let mut state = begun(&[END_ROW.to_vec()])[0];
-    let began = Instant::now();
-    let answer = ffi::run(&mut state, CLOCK_END);
-    let seconds = began.elapsed().as_secs_f64();
-    println!("bench run_to_clocks_end_1_row ours {seconds:.2} s");
-    let expected = at_clocks_end();
-    let ran = answer == Answer::accepted(0) && state == expected;
-    let further = [ffi::tick(&mut state), ffi::run(&mut state, 1)];
-    let ended = further == [Answer::refused(refusal::CLOCK); 2] && state == expected;
-    if !ran || !ended {
-        println!("bench run_to_clocks_end_1_row {answer:?} {state:?}, due {expected:?}");
-    }
-    ran && ended
 }

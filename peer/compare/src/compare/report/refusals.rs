@@ -21,6 +21,43 @@ const NAMEABLE: u32 = 500;
 /// Sets of faults laid into the rows of a table.
 const FAULT_SETS: u32 = 80;
 
+/// Values of the first line: sound, with leading zeros, too long, and no numbers.
+const VALUES: [&[u8]; 24] = [
+    b"0",
+    b"00",
+    b"000000",
+    b"01",
+    b"024",
+    b"1",
+    b"24",
+    b"24\r",
+    b"24\n",
+    b"24\0",
+    b"12345",
+    b"99999",
+    b"123456",
+    b"100000",
+    b"999999",
+    b"4294967296",
+    b"",
+    b"-1",
+    b"+1",
+    b" 1",
+    b"1 ",
+    b"0x1",
+    b"1e3",
+    b"1.",
+];
+
+/// First lines with the key, or the sign after it, gone wrong.
+const WRONG_KEYS: [&str; 5] = [
+    "tick=1\n",
+    "Ticks=1\n",
+    "ticks 1\n",
+    "ticks==1\n",
+    "\u{feff}ticks=1\n",
+];
+
 fn first_line(value: &[u8]) -> Vec<u8> {
     [b"ticks=", value, b"\n"].concat()
 }
@@ -53,54 +90,29 @@ pub fn ticks_lines(course: &mut Course) -> Compared {
     let (one, two) = (one_row_with(0, b"1"), sound(&mut course.rng, 2, 9));
     let two = peer::text::text_of(&two);
     let rests: [&[u8]; 6] = [b"", b"\n", b"rows=0\n", b"rows=33\n", &one, &two];
-    let values: [&[u8]; 24] = [
-        b"0",
-        b"00",
-        b"000000",
-        b"01",
-        b"024",
-        b"1",
-        b"24",
-        b"24\r",
-        b"24\n",
-        b"24\0",
-        b"12345",
-        b"99999",
-        b"123456",
-        b"100000",
-        b"999999",
-        b"4294967296",
-        b"",
-        b"-1",
-        b"+1",
-        b" 1",
-        b"1 ",
-        b"0x1",
-        b"1e3",
-        b"1.",
-    ];
     for rest in rests {
-        for value in values {
-            let whole = [&first_line(value)[..], rest].concat();
-            same_report_in(course, &whole, near)?;
-            let without_end = [b"ticks=", value, rest].concat();
-            same_report_in(course, &without_end, near)?;
-        }
-        for key in [
-            "tick=1\n",
-            "Ticks=1\n",
-            "ticks 1\n",
-            "ticks==1\n",
-            "\u{feff}ticks=1\n",
-        ] {
-            same_report_in(course, &[key.as_bytes(), rest].concat(), near)?;
-        }
-        for byte in 0..=255 {
-            same_report(course, &[&[byte], rest].concat())?;
-            same_report(course, &[b"ticks=", &[byte][..], rest].concat())?;
-            same_report(course, &[b"ticks=7", &[byte][..], rest].concat())?;
-            same_report(course, &[b"ticks=7\n", &[byte][..], rest].concat())?;
-        }
+        ticks_lines_before(course, rest)?;
+    }
+    Ok(())
+}
+
+/// The first lines with a value or a key gone wrong and those with one byte of any
+/// kind, before the same rest.
+fn ticks_lines_before(course: &mut Course, rest: &[u8]) -> Compared {
+    for value in VALUES {
+        let whole = [&first_line(value)[..], rest].concat();
+        same_report_in(course, &whole, near)?;
+        let without_end = [b"ticks=", value, rest].concat();
+        same_report_in(course, &without_end, near)?;
+    }
+    for line in WRONG_KEYS {
+        same_report_in(course, &[line.as_bytes(), rest].concat(), near)?;
+    }
+    for byte in 0..=255 {
+        same_report(course, &[&[byte], rest].concat())?;
+        same_report(course, &[b"ticks=", &[byte][..], rest].concat())?;
+        same_report(course, &[b"ticks=7", &[byte][..], rest].concat())?;
+        same_report(course, &[b"ticks=7\n", &[byte][..], rest].concat())?;
     }
     Ok(())
 }
