@@ -1,6 +1,5 @@
 // The fresh state of a table: nothing released, every window full of met marks.
 ghost use mathlib.Core.Path.{_≡_};
-ghost use Prim.Native.Nat.{_≤_};
 ghost use lib.ListN.{length, replicate};
 ghost use Rattle.law.specs.Table.{Ranged, WellFormed, tableOf};
 ghost use Rattle.law.specs.Tick.{freshRow, fresh as freshLaw};

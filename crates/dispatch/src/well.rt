@@ -2,7 +2,7 @@
 ghost use mathlib.Core.Path.{_≡_};
 ghost use Prim.Native.Nat.{_≤_, _<_, _+_, _*_, _^_};
 ghost use lib.Dec.{eqb, ltb};
-ghost use lib.ListN.{length, drop};
+ghost use lib.ListN.{drop};
 ghost use Rattle.law.specs.Sums.{every};
 ghost use Rattle.law.specs.Pattern.{InRange};
 ghost use Rattle.law.specs.Table.{repeated, faulty};

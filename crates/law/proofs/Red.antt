@@ -1,5 +1,5 @@
 -- The deeply-red pattern keeps the laws of a pattern; no pattern with the same m and k counts more; and its word is that of its first m bits.
-use mathlib.Core.Bool.{Bool, true}
+use mathlib.Core.Bool.{Bool}
 use mathlib.Core.Path.{_≡_, sym, ap, _∙_, subst}
 use Prim.Native.Nat.{ℕ, zero, suc, _+_, _-_, _*_, _/_, _%_, _^_, _≤_, _<_}
 use native.Mathlib.Decide.{decLt, decLe}

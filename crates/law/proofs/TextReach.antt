@@ -12,7 +12,7 @@ use borrow.Author.Tests.{ne-eqb, leb-true}
 use Rattle.law.specs.Sums.{pick}
 use Rattle.law.specs.Refusal.{accepted, refused, orRefused, head}
 use Rattle.law.specs.Text.{rowsKey, rowKeys, keysOf}
-use Rattle.law.specs.Reading.{Found, found, fault, keyLength, lineAt, linesAt, ended, behind, rowsAt, rowsAnswer, firstAnswer, readAnswer, wordsRead}
+use Rattle.law.specs.Reading.{Found, found, fault, keyLength, lineAt, linesAt, ended, rowsAt, rowsAnswer, firstAnswer, readAnswer, wordsRead}
 use Rattle.law.proofs.TextLine.{reached, key-high, value-reached, line-cut, line-on, line-local}
 use Rattle.law.proofs.TextLines.{came, fell, outcome, reached-behind, lines-none, lines-off, lines-on, lines-local}
 use Rattle.law.proofs.TextAnswers.{read-says, words-read}

@@ -2,8 +2,8 @@
 use mathlib.Core.Bool.{Bool, true, false, not}
 use mathlib.Core.List.{List, [], _∷_, _++_}
 use mathlib.Core.Path.{_≡_, refl, ap, _∙_}
-use Prim.Native.Nat.{ℕ, zero, suc, _+_, _-_, _*_, _/_, _%_, _≤_, _<_}
-use native.Mathlib.Decide.{decLt, ℕ-discrete}
+use Prim.Native.Nat.{ℕ, _+_, _-_, _*_, _/_, _%_, _≤_, _<_}
+use native.Mathlib.Decide.{decLt}
 use native.Mathlib.Nat.{mul-le-mul-left, mul-le-mul, mul-one}
 use native.Mathlib.Omega.{arith}
 use lib.Dec.{leb, ltb, eqb}
@@ -12,7 +12,7 @@ use borrow.Author.Tests.{le-leb, lt-leb, leb-true, eq-eqb, ne-eqb, eqb-false}
 use Rattle.law.specs.Sums.{pick, ceil}
 use Rattle.law.specs.Refusal.{Answer, accepted, refused, orRefused, after}
 use Rattle.law.specs.Pattern.{IsPattern, mandatory, count, deeplyRed, redCount}
-use Rattle.law.specs.Table.{Task, row, width, isRed, kindOf, countOf, Ranged, WellFormed, tableOf, repeated, faultOf, rowFault, faulty, rowsChecked, checked}
+use Rattle.law.specs.Table.{Task, row, width, isRed, kindOf, countOf, Ranged, WellFormed, tableOf, rowsChecked, checked}
 use Rattle.law.specs.Verdict.{demand, load, fitsAt, response, fits, misfit, admitted, responses, verdict, verdictRoom}
 use Rattle.law.proofs.Ceil.{ceil-mono, ceil-least}
 use Rattle.law.proofs.Pattern.{even, counted-mono, counted-most}

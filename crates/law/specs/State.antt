@@ -1,7 +1,7 @@
 -- Document 01, "One tick", its last paragraphs: which states are well formed, a run with its refusals, and a saved state as words.
-use mathlib.Core.Bool.{Bool, not}
+use mathlib.Core.Bool.{Bool}
 use mathlib.Core.List.{List, [], _∷_, _++_, map}
-use Prim.Native.Nat.{ℕ, zero, suc, _+_, _-_, _*_, _^_}
+use Prim.Native.Nat.{ℕ, suc, _+_, _-_, _*_, _^_}
 use lib.Dec.{leb, ltb, eqb}
 use lib.ListN.{length, getD, set, drop, replicate}
 use Rattle.law.specs.Sums.{bit, both, pick, every, build}

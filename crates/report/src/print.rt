@@ -1,12 +1,12 @@
 // What is printed, piece by piece, put into a run of bytes that has room for every answer.
-ghost use mathlib.Core.List.{[], _∷_};
+ghost use mathlib.Core.List.{_∷_};
 ghost use mathlib.Core.Path.{_≡_};
 ghost use Prim.Native.Nat.{_+_, _≤_, _<_};
-ghost use lib.ListN.{length, getD, replicate};
+ghost use lib.ListN.{length, replicate};
 ghost use Rattle.law.specs.Refusal.{head};
 ghost use Rattle.law.specs.Table.{tableOf};
 ghost use Rattle.law.specs.State.{stateOf, tasksOf};
-ghost use Rattle.law.specs.Report.{refusalPrinted, placed, printedKeys, numberLines, verdictPrinted, responsePrinted, rowsPrinted, runPrinted};
+ghost use Rattle.law.specs.Report.{refusalPrinted, placed, printedKeys, numberLines, verdictPrinted, rowsPrinted, runPrinted};
 ghost use Rattle.refusal.specs.Shown.{numberOf, alsoOf};
 ghost use Rattle.rows.specs.Said.{Held};
 ghost use Rattle.dispatch.specs.Shown.{countsSaid};

@@ -1,8 +1,7 @@
 // A table's words as a task text, written into a lent room of bytes.
-ghost use mathlib.Core.List.{[]};
 ghost use mathlib.Core.Path.{_≡_};
 ghost use Prim.Native.Nat.{_+_, _*_, _≤_, _<_};
-ghost use lib.ListN.{length, getD};
+ghost use lib.ListN.{length};
 ghost use Rattle.law.specs.Text.{rowKeys};
 ghost use Rattle.law.specs.Reading.{textOf, writeAnswer, writeRoom};
 ghost use Rattle.line.specs.Put.{putAt};

@@ -8,7 +8,7 @@ use lib.Dec.{eqb}
 use lib.ListN.{length, getD, set}
 use Rattle.law.specs.Sums.{bit}
 use Rattle.law.specs.Table.{Task, row, wordOf}
-use Rattle.law.specs.Tick.{Row, State, choose, fullLength, begin, finish, tick, run, clockEnd}
+use Rattle.law.specs.Tick.{Row, State, choose, fullLength, begin, finish, tick, clockEnd}
 use Rattle.law.specs.State.{stateOf, laid, tasksOf}
 use Rattle.law.specs.Sound.{SoundState}
 use Rattle.law.proofs.Ticks.{finished-length, begin-sound, task-at, tasks-length}

@@ -7,7 +7,6 @@ use native.Mathlib.Omega.{arith}
 use lib.Dec.{eqb}
 use lib.ListN.{length}
 use borrow.Author.Tests.{eq-eqb, ne-eqb, lt-ltb, le-ltb}
-use Rattle.law.specs.Sums.{first}
 use Rattle.law.specs.Table.{Task, taskAt, tableOf, row, repeated}
 use Rattle.law.proofs.First.{Searched, searched-start, searched-hit, searched-next, searched-end}
 use Rattle.law.proofs.Table.{table-row}

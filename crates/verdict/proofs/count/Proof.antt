@@ -1,5 +1,4 @@
 -- `verdict::count` meets its contract: each pattern's count by the row's p.
-use mathlib.Core.Path.{sym, _∙_}
 use borrow.Author.Needs.{needs}
 use borrow.Author.Tests.{eq-eqb, ne-eqb}
 use Rattle.law.specs.Table.{countOf}

@@ -9,7 +9,7 @@ use lib.ListN.{length, take, set, replicate, length-set, length-replicate}
 use borrow.Author.Needs.{needs}
 use borrow.Author.Tests.{leb-true}
 use Rattle.law.specs.Sums.{pick, first, build}
-use Rattle.law.specs.Table.{Task, tableOf, row, WellFormed}
+use Rattle.law.specs.Table.{Task, tableOf, WellFormed}
 use Rattle.law.specs.Verdict.{response, fits, misfit, responses}
 use Rattle.law.proofs.First.{Searched, searched-start, searched-hit, searched-next, searched-end, build-length}
 use Rattle.law.proofs.Fill.{filled, filled-none, filled-next, filled-front}

@@ -5,7 +5,7 @@ use Prim.Native.Nat.{ℕ, _+_, _-_, _/_, _≤_, _<_}
 use native.Mathlib.Omega.{arith}
 use lib.ListN.{length}
 use Rattle.law.specs.Table.{Task, tableOf, row, WellFormed}
-use Rattle.law.specs.Verdict.{load, fits}
+use Rattle.law.specs.Verdict.{load}
 use Rattle.law.proofs.Table.{table-length, table-row}
 use Rattle.law.proofs.Verdict.{Sought, sought-start, sought-fits, sought-never, sought-leap, fits-yes, fits-no}
 use Rattle.verdict.specs.declared.Fit.the-variants.{At, Never}
