@@ -54,15 +54,31 @@ module _ (m k : ℕ) (hm : zero < m) (hk : m ≤ k) where
   unfolding count
   count-least a q = simp add-mul (ceil-floor (a * m) (q * m) k (omega arith))
 
+-- what the steps of a count say of it
+module _ (kind : ℕ → Bool) (counted : ℕ → ℕ) (step : (a : ℕ) → counted (suc a) ≡ counted a + bit (kind a)) where
+  pub steps-among : (a q : ℕ) → counted (a + q) ≡ counted a + among kind a q
+  unfolding among
+  steps-among a zero = rw add-zero (omega arith)
+  steps-among a (suc q) = rw (add-suc, step (a + q)) (omega (arith, steps-among a q))
+
+  pub steps-mono : (a q : ℕ) → counted a ≤ counted (a + q)
+  steps-mono a q = omega (arith, steps-among a q)
+
+  -- among q jobs there are at most q mandatory ones
+  pub steps-most : (a q : ℕ) → counted (a + q) ≤ counted a + q
+  steps-most a zero = rw add-zero (omega arith)
+  steps-most a (suc q) = rw (add-suc, step (a + q)) (omega (arith, steps-most a q, bit-most (kind (a + q))))
+
 -- what any pattern keeps
 module _ {m k : ℕ} {kind : ℕ → Bool} {counted : ℕ → ℕ} (p : IsPattern m k kind counted) where
   pub counted-among : (a q : ℕ) → counted (a + q) ≡ counted a + among kind a q
-  unfolding among
-  counted-among a zero = rw add-zero (omega arith)
-  counted-among a (suc q) = rw (add-suc, p .step (a + q)) (omega (arith, counted-among a q))
+  counted-among = steps-among kind counted (p .step)
 
   pub counted-mono : (a q : ℕ) → counted a ≤ counted (a + q)
-  counted-mono a q = omega (arith, counted-among a q)
+  counted-mono = steps-mono kind counted (p .step)
+
+  pub counted-most : (q : ℕ) → counted q ≤ q
+  counted-most q = omega (arith, steps-most kind counted (p .step) 0 q, p .none, ap counted (zero-add q))
 
   -- "the first q jobs hold exactly .. mandatory ones"
   pub among-first : (q : ℕ) → among kind 0 q ≡ counted q
@@ -75,17 +91,6 @@ module _ {m k : ℕ} {kind : ℕ → Bool} {counted : ℕ → ℕ} (p : IsPatter
   -- "k in a row hold exactly m"
   pub among-turn : (a : ℕ) → among kind a k ≡ m
   among-turn a = omega (arith, counted-among a k, p .turn a)
-
-  -- among q jobs there are at most q mandatory ones
-  pub counted-most : (q : ℕ) → counted q ≤ q
-  counted-most zero = omega (arith, p .none)
-  counted-most (suc q) = omega (arith, p .step q, counted-most q, bit-most (kind q))
-
-  pub counted-turns : (a n : ℕ) → counted (a + n * k) ≡ counted a + n * m
-  counted-turns a zero = simp (zero-mul, add-zero)
-  counted-turns a (suc n) =
-      let e : a + suc n * k ≡ a + n * k + k = omega (arith, suc-mul n k) in
-      omega (arith, ap counted e, p .turn (a + n * k), counted-turns a n, suc-mul n m)
 
   -- the pattern repeats after k jobs
   pub kind-turn : (a : ℕ) → kind (a + k) ≡ kind a

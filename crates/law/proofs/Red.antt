@@ -3,7 +3,7 @@ use mathlib.Core.Bool.{Bool}
 use mathlib.Core.Path.{_≡_, sym, ap, _∙_, subst}
 use Prim.Native.Nat.{ℕ, zero, suc, _+_, _-_, _*_, _/_, _%_, _^_, _≤_, _<_}
 use native.Mathlib.Decide.{decLt, decLe}
-use native.Mathlib.Nat.{add-mul, suc-mul, zero-mul, add-mul-div-right, add-mul-mod-self-right, div-eq-of-lt, mod-eq-of-lt, mod-add-div', mod-lt, pow-suc, one-mul}
+use native.Mathlib.Nat.{suc-mul, zero-mul, add-zero, zero-add, add-mul-div-right, add-mul-mod-self-right, div-eq-of-lt, mod-eq-of-lt, mod-add-div', mod-lt, pow-suc, one-mul}
 use native.Mathlib.Omega.{arith}
 use lib.Dec.{ltb}
 use lib.Pow.{pow-pos}
@@ -11,7 +11,7 @@ use borrow.Author.Tests.{le-leb, lt-leb, lt-ltb, le-ltb, eq-eqb, ne-eqb}
 use Rattle.law.specs.Sums.{bit, pick, smaller, bitsTo}
 use Rattle.law.specs.Pattern.{mandatory, word, deeplyRed, redCount, IsPattern}
 use Rattle.law.specs.Table.{Task, Ranged, kindOf, wordOf}
-use Rattle.law.proofs.Pattern.{counted-mono, counted-most, counted-turns}
+use Rattle.law.proofs.Pattern.{steps-mono, steps-most}
 
 left-smaller : (a b : ℕ) → a ≤ b → smaller a b ≡ a
 left-smaller a b h = rw (le-leb a b h)
@@ -65,78 +65,6 @@ module _ (m k : ℕ) (hm : zero < m) (hk : m ≤ k) where
             )
       ]
 
-  -- two parts of turns, b and c jobs long, count together no less than the b + c jobs from a turn's start
-  parts-most : (b c : ℕ) → smaller (b + c) m ≤ smaller b m + smaller c m
-  parts-most b c =
-      elim (decLe m b) [
-        | yes l ↦ omega (arith, right-smaller b m l, right-smaller (b + c) m (omega arith))
-        | no l ↦ elim (decLe m c) [
-          | yes q ↦ omega (arith, right-smaller c m q, right-smaller (b + c) m (omega arith))
-          | no q ↦ elim (decLe m (b + c)) [
-            | yes r ↦ omega (arith, left-smaller b m (omega arith), left-smaller c m (omega arith), right-smaller (b + c) m r)
-            | no r ↦ omega (arith, left-smaller b m (omega arith), left-smaller c m (omega arith), left-smaller (b + c) m (omega arith))
-          ]
-        ]
-      ]
-
-  -- .. also where they reach d jobs into a turn more
-  parts-turn : (b c d : ℕ) → b < k → c < k → b + c ≡ d + k → m + smaller d m ≤ smaller b m + smaller c m
-  parts-turn b c d hb hc e =
-      elim (decLe m b) [
-        | yes l ↦ elim (decLe m c) [
-          | yes q ↦ omega (arith, right-smaller b m l, right-smaller c m q, smaller-right d)
-          | no q ↦ omega (arith, right-smaller b m l, left-smaller c m (omega arith), smaller-left d)
-        ]
-        | no l ↦ elim (decLe m c) [
-          | yes q ↦ omega (arith, left-smaller b m (omega arith), right-smaller c m q, smaller-left d)
-          | no q ↦ omega (arith, left-smaller b m (omega arith), left-smaller c m (omega arith), smaller-left d)
-        ]
-      ]
-    where
-      smaller-left : (d : ℕ) → smaller d m ≤ d
-      smaller-left d =
-          elim (decLe d m) [
-            | yes l ↦ omega (arith, left-smaller d m l)
-            | no l ↦ omega (arith, right-smaller d m (omega arith))
-          ]
-
-      smaller-right : (d : ℕ) → smaller d m ≤ m
-      smaller-right d =
-          elim (decLe d m) [
-            | yes l ↦ omega (arith, left-smaller d m l)
-            | no l ↦ omega (arith, right-smaller d m (omega arith))
-          ]
-
-  most-at : (n b x c : ℕ) → b < k → c < k
-      → redCount m k ((b + n * k) + (c + x * k)) ≤ redCount m k (b + n * k) + redCount m k (c + x * k)
-  most-at n b x c hb hc =
-      elim (decLt (b + c) k) [
-        | yes l ↦
-            let e : (b + n * k) + (c + x * k) ≡ (b + c) + (n + x) * k = omega (arith, add-mul n x k) in
-            omega (
-              arith,
-              ap (redCount m k) e,
-              red-at (n + x) (b + c) l,
-              red-at n b hb,
-              red-at x c hc,
-              parts-most b c,
-              add-mul n x m,
-            )
-        | no l ↦
-            let d : ℕ = b + c - k in
-            let e : (b + n * k) + (c + x * k) ≡ d + suc (n + x) * k = omega (arith, suc-mul (n + x) k, add-mul n x k) in
-            omega (
-              arith,
-              ap (redCount m k) e,
-              red-at (suc (n + x)) d (omega arith),
-              red-at n b hb,
-              red-at x c hc,
-              parts-turn b c d hb hc (omega arith),
-              suc-mul (n + x) m,
-              add-mul n x m,
-            )
-      ]
-
   -- every number of jobs is so many turns and jobs
   whole : (a : ℕ) → a % k + a / k * k ≡ a
   whole a = mod-add-div' a k
@@ -144,44 +72,59 @@ module _ (m k : ℕ) (hm : zero < m) (hk : m ≤ k) where
   part : (a : ℕ) → a % k < k
   part a = mod-lt a (omega arith)
 
+  -- Wherever every k jobs in a row hold m mandatory ones, q in a row hold no more than the deeply-red count of q: in a part of a turn there are no more
+  -- than its jobs, nor than m.
+  module _ (kind : ℕ → Bool) (counted : ℕ → ℕ) (step : (a : ℕ) → counted (suc a) ≡ counted a + bit (kind a))
+      (turn : (a : ℕ) → counted (a + k) ≡ counted a + m) where
+    turns : (a n : ℕ) → counted (a + n * k) ≡ counted a + n * m
+    turns a zero = simp (zero-mul, add-zero)
+    turns a (suc n) =
+        let e : a + suc n * k ≡ a + n * k + k = omega (arith, suc-mul n k) in
+        omega (arith, ap counted e, turn (a + n * k), turns a n, suc-mul n m)
+
+    no-more : (a q : ℕ) → counted (a + q) ≤ counted a + redCount m k q
+    no-more a q =
+        let b = q % k in
+        let n = q / k in
+        let e : a + q ≡ a + b + n * k = omega (arith, whole q) in
+        let own : redCount m k q ≡ n * m + smaller b m = ap (redCount m k) (sym (whole q)) ∙ red-at n b (part q) in
+        elim (decLe b m) [
+          | yes l ↦ omega (arith, ap counted e, turns (a + b) n, own, left-smaller b m l, steps-most kind counted step a b)
+          | no l ↦
+              let all : a + b + (k - b) ≡ a + k = omega (arith, part q) in
+              omega (arith, ap counted e, turns (a + b) n, own, right-smaller b m (omega arith), steps-mono kind counted step (a + b) (k - b), ap counted all, turn a)
+        ]
+
+  red-step : (a : ℕ) → redCount m k (suc a) ≡ redCount m k a + bit (deeplyRed m k a)
+  red-step a =
+      subst (λ (z : ℕ). redCount m k (suc z) ≡ redCount m k z + bit (deeplyRed m k z)) (whole a) (step-at (a / k) (a % k) (part a))
+
+  red-turn : (a : ℕ) → redCount m k (a + k) ≡ redCount m k a + m
+  red-turn a =
+      let e : a + k ≡ a % k + suc (a / k) * k = omega (arith, whole a, suc-mul (a / k) k) in
+      omega (
+        arith,
+        ap (redCount m k) e,
+        red-at (suc (a / k)) (a % k) (part a),
+        ap (redCount m k) (whole a),
+        red-at (a / k) (a % k) (part a),
+        suc-mul (a / k) m,
+      )
+
   pub red : IsPattern m k (deeplyRed m k) (redCount m k)
   red =
+      let start : 0 ≡ 0 + 0 * k = omega (arith, zero-mul k) in
       record {
         none = omega (arith, ap (redCount m k) start, red-at 0 0 (omega arith), left-smaller 0 m (omega arith), zero-mul m);
-        step = λ a. subst (λ (z : ℕ). redCount m k (suc z) ≡ redCount m k z + bit (deeplyRed m k z)) (whole a) (step-at (a / k) (a % k) (part a));
+        step = red-step;
         first = ap (deeplyRed m k) start ∙ kind-at 0 0 (omega arith) ∙ lt-ltb 0 m hm;
-        most = λ a q. rw (whole a, whole q) at (most-at (a / k) (a % k) (q / k) (q % k) (part a) (part q));
-        turn = λ a. turn-at a;
+        most = no-more (deeplyRed m k) (redCount m k) red-step red-turn;
+        turn = red-turn;
       }
-    where
-      start : 0 ≡ 0 + 0 * k
-      start = omega (arith, zero-mul k)
 
-      turn-at : (a : ℕ) → redCount m k (a + k) ≡ redCount m k a + m
-      turn-at a =
-          let e : a + k ≡ a % k + suc (a / k) * k = omega (arith, whole a, suc-mul (a / k) k) in
-          omega (
-            arith,
-            ap (redCount m k) e,
-            red-at (suc (a / k)) (a % k) (part a),
-            ap (redCount m k) (whole a),
-            red-at (a / k) (a % k) (part a),
-            suc-mul (a / k) m,
-          )
-
-  -- No pattern with the same m and k has more mandatory jobs among its first q: in a part of a turn there are no more than its jobs, nor than m.
+  -- So no pattern with the same m and k has more mandatory jobs among its first q.
   pub red-most : {kind : ℕ → Bool} {counted : ℕ → ℕ} → IsPattern m k kind counted → (q : ℕ) → counted q ≤ redCount m k q
-  red-most {counted = counted} p q =
-      let b = q % k in
-      let n = q / k in
-      let turns : counted q ≡ counted b + n * m = ap counted (sym (whole q)) ∙ counted-turns p b n in
-      let own : redCount m k q ≡ n * m + smaller b m = ap (redCount m k) (sym (whole q)) ∙ red-at n b (part q) in
-      elim (decLe b m) [
-        | yes l ↦ omega (arith, turns, own, left-smaller b m l, counted-most p b)
-        | no l ↦
-            let all : b + (k - b) ≡ 0 + k = omega (arith, part q) in
-            omega (arith, turns, own, right-smaller b m (omega arith), counted-mono p b (k - b), ap counted all, p .turn 0, p .none)
-      ]
+  red-most {kind} {counted} p q = omega (arith, no-more kind counted (p .step) (p .turn) 0 q, p .none, ap counted (zero-add q))
 
   -- its word: the first m bits are set, and no other
   bits-to : (n : ℕ) → n ≤ k → bitsTo (deeplyRed m k) n ≡ 2 ^ smaller n m - 1

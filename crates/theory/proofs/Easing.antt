@@ -3,7 +3,7 @@
 use mathlib.Core.Bool.{Bool, true, false, not}
 use mathlib.Core.List.{List}
 use mathlib.Core.Logic.{⊎-elim}
-use mathlib.Core.Path.{_≡_, sym, ap, _∙_, subst}
+use mathlib.Core.Path.{_≡_, refl, sym, ap, _∙_, subst}
 use Prim.Native.Nat.{ℕ, _≤_, _<_}
 use native.Mathlib.Nat.{mul-le-mul-left}
 use native.Mathlib.Omega.{arith}
@@ -76,51 +76,54 @@ even-lighter r h =
 same-lighter : (r : Task) → Lighter r r
 same-lighter r = record { own = omega arith; brings = λ t. omega arith; later = omega arith }
 
-even-ranged : (r : Task) → Ranged r → Ranged (evenRow r)
-even-ranged r h =
+-- what a row that is made even, or not, keeps
+record Kept (old new : Task) : Type 0 where
+  lighter : Lighter old new
+  ranged : Ranged new
+  id : new .id ≡ old .id
+  d : new .d ≡ old .d
+
+same-kept : (r : Task) → Ranged r → Kept r r
+same-kept r h = record { lighter = same-lighter r; ranged = h; id = refl; d = refl }
+
+even-kept : (r : Task) → Ranged r → Kept r (evenRow r)
+even-kept r h =
     record {
-      id-low = h .id-low;
-      id-high = h .id-high;
-      t-low = h .t-low;
-      t-high = h .t-high;
-      d-low = h .d-low;
-      d-high = h .d-high;
-      c-low = h .c-low;
-      c-high = h .c-high;
-      pair = h .pair;
-      p-high = omega arith;
+      lighter = even-lighter r h;
+      ranged =
+          record {
+            id-low = h .id-low;
+            id-high = h .id-high;
+            t-low = h .t-low;
+            t-high = h .t-high;
+            d-low = h .d-low;
+            d-high = h .d-high;
+            c-low = h .c-low;
+            c-high = h .c-high;
+            pair = h .pair;
+            p-high = omega arith;
+          };
+      id = refl;
+      d = refl;
     }
 
 -- "a table admitted with some rows deeply-red is admitted with those rows even", and no response time grows
 module _ (before after : List Task) (w : WellFormed before) (e : Evened before after) where
+  kept : (i : ℕ) → i < length before → Kept (row before i) (row after i)
+  kept i h =
+      ⊎-elim (λ (q : row after i ≡ row before i). subst (Kept (row before i)) (sym q) (same-kept (row before i) (w .ranged i h)))
+      (λ (q : row after i ≡ evenRow (row before i)). subst (Kept (row before i)) (sym q) (even-kept (row before i) (w .ranged i h)))
+      (e .each i h)
+
   lighter : (i : ℕ) → i < length before → Lighter (row before i) (row after i)
-  lighter i h =
-      ⊎-elim (λ (q : row after i ≡ row before i). subst (Lighter (row before i)) (sym q) (same-lighter (row before i)))
-      (λ (q : row after i ≡ evenRow (row before i)). subst (Lighter (row before i)) (sym q) (even-lighter (row before i) (w .ranged i h)))
-      (e .each i h)
-
-  ranged : (i : ℕ) → i < length before → Ranged (row after i)
-  ranged i h =
-      ⊎-elim (λ (q : row after i ≡ row before i). subst Ranged (sym q) (w .ranged i h))
-      (λ (q : row after i ≡ evenRow (row before i)). subst Ranged (sym q) (even-ranged (row before i) (w .ranged i h)))
-      (e .each i h)
-
-  same-id : (i : ℕ) → i < length before → row after i .id ≡ row before i .id
-  same-id i h =
-      ⊎-elim (λ (q : row after i ≡ row before i). ap (λ (r : Task). r .id) q)
-      (λ (q : row after i ≡ evenRow (row before i)). ap (λ (r : Task). r .id) q) (e .each i h)
-
-  same-d : (i : ℕ) → i < length before → row after i .d ≡ row before i .d
-  same-d i h =
-      ⊎-elim (λ (q : row after i ≡ row before i). ap (λ (r : Task). r .d) q)
-      (λ (q : row after i ≡ evenRow (row before i)). ap (λ (r : Task). r .d) q) (e .each i h)
+  lighter i h = kept i h .lighter
 
   shorter : (i : ℕ) → i < length before → response after i ≤ response before i
   unfolding response
   shorter i h =
       elim (known (fits before i)) [
         | passes q ↦ no-later before after (e .many) lighter i h q
-        | fails q ↦ omega (arith, response-late before i q, first-high (fitsAt after i) 1 (row after i .d), same-d i h)
+        | fails q ↦ omega (arith, response-late before i q, first-high (fitsAt after i) 1 (row after i .d), kept i h .d)
       ]
 
   pub evened : Eased before after
@@ -130,9 +133,9 @@ module _ (before after : List Task) (w : WellFormed before) (e : Evened before a
             record {
               rows-low = omega (arith, w .rows-low, e .many);
               rows-high = omega (arith, w .rows-high, e .many);
-              ranged = λ i h. ranged i (omega (arith, e .many));
+              ranged = λ i h. kept i (omega (arith, e .many)) .ranged;
               once = λ i j hi hj q. w .once i j (omega (arith, e .many)) (omega (arith, e .many))
-                  (sym (same-id i (omega (arith, e .many))) ∙ q ∙ same-id j (omega (arith, e .many)));
+                  (sym (kept i (omega (arith, e .many)) .id) ∙ q ∙ kept j (omega (arith, e .many)) .id);
             };
         still-admitted = admitted-still before after (e .many) lighter;
         no-longer = shorter;
