@@ -29,7 +29,13 @@ pub mod TextLongest
 pub mod TextSteps
 pub mod TextReach
 pub mod TextTrips
+pub mod TextSmall
 pub mod TextWrite
+pub mod Relaid
+pub mod Carry
+pub mod CarryTrips
+pub mod CarrySizes
+pub mod CarryExamples
 pub mod Report
 pub mod TextExamples
 pub mod ReportExamples

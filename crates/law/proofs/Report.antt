@@ -1,29 +1,26 @@
 -- What is printed, by its cases, and that the numbers in it are small.
-use mathlib.Core.Bool.{Bool, true, false, not}
 use mathlib.Core.List.{List, [], _∷_, _++_}
 use mathlib.Core.Path.{_≡_, refl, sym, ap, _∙_}
 use Prim.Native.Nat.{ℕ, zero, suc, _+_, _-_, _*_, _≤_, _<_}
 use native.Mathlib.Omega.{arith}
-use lib.Dec.{leb, ltb, eqb}
 use lib.ListN.{length, getD, take, drop, length-append}
-use borrow.Author.Tests.{leb-true, le-leb, lt-leb}
-use Rattle.law.specs.Refusal.{Answer, accepted, refused, orRefused, after, head, valueOf}
-use Rattle.law.specs.Table.{Task, row, tableOf, rowFault, faulty, rowsChecked}
+use Rattle.law.specs.Refusal.{Answer, accepted, refused, head}
+use Rattle.law.specs.Table.{Task, row, tableOf}
 use Rattle.law.specs.Tick.{State, noRow, fresh, run}
 use Rattle.law.specs.State.{countsOf}
 use Rattle.law.specs.Verdict.{admitted, misfit}
-use Rattle.law.specs.Text.{rowsKey, rowKeys, lines}
-use Rattle.law.specs.Reading.{Found, found, fault, decimal, lineAt, rowsAt, rowsAnswer, firstAnswer, readAnswer, wordsRead}
+use Rattle.law.specs.Text.{rowKeys, lines}
+use Rattle.law.specs.Reading.{Found, found, fault, decimal, lineAt, wordsRead, readAnswer}
 use Rattle.law.specs.Report.{ticksKey, idleKey, atKey, refusedKey, admittedLine, unschedulableLine, printedKeys, numberLines, refusalPrinted, verdictPrinted, responsePrinted, rowPrinted, rowsPrinted, statePrinted, runPrinted, placed, textPrinted, answerPrinted, printed, reportAnswer, reportRoom}
 use Rattle.law.proofs.Tests.{Known, passes, fails, known}
 use Rattle.law.specs.Sums.{pick}
-use Rattle.law.proofs.First.{first-high}
 use Rattle.law.proofs.Lists.{take-drop}
 use Rattle.law.proofs.Table.{table-length}
 use Rattle.law.proofs.TextLine.{reached}
 use Rattle.law.proofs.TextDecimal.{decimal-ten}
-use Rattle.law.proofs.TextReach.{line-reach, rows-reach, line-short, read-short-text, words-short}
-use Rattle.law.proofs.TextTrips.{words-many, read-write}
+use Rattle.law.proofs.TextAnswers.{read-says, put-short, put-accepted, put-says, put-filled, put-kept}
+use Rattle.law.proofs.TextReach.{line-reach, line-short, read-short-text, words-short}
+use Rattle.law.proofs.TextTrips.{read-write}
 
 module _ (input : List ℕ) where
   pub printed-unread : {j : ℕ} → lineAt input 0 ticksKey ≡ fault j → printed input ≡ refusalPrinted 12 (j ∷ [])
@@ -37,61 +34,9 @@ module _ (input : List ℕ) where
     printed-refused e = rw (line, e)
 
     pub printed-run : {rows : List ℕ} → readAnswer (drop next input) 224 ≡ accepted rows
-        → printed input ≡ runPrinted (tableOf (wordsRead (drop next input))) (head values)
+        → printed input ≡ runPrinted (tableOf (wordsRead rowKeys (drop next input))) (head values)
     unfolding printed
     printed-run e = rw (line, e)
-
--- what a refusal also returns, 0 where there is none: its row or place, which is small
-alsoIn : Answer → ℕ
-alsoIn (accepted vs) = 0
-alsoIn (refused n also) = head also
-
-faulty-most : (tasks : List Task) → faulty tasks ≤ length tasks
-unfolding faulty
-faulty-most tasks = omega (arith, first-high (λ i. not (eqb (rowFault tasks i) 0)) 0 (length tasks))
-
-rows-refused-small : (tasks : List Task) (n : ℕ) (also : List ℕ) → rowsChecked tasks ≡ refused n also → head also ≤ length tasks
-unfolding rowsChecked alsoIn
-rows-refused-small tasks n also e = by (eqb (faulty tasks) (length tasks)) e
-  where
-    by : (b : Bool) → orRefused b (refused (rowFault tasks (faulty tasks)) (faulty tasks ∷ [])) (accepted (length tasks ∷ [])) ≡ refused n also
-        → head also ≤ length tasks
-    by true e = omega (arith, ap alsoIn e)
-    by false e = omega (arith, faulty-most tasks, ap alsoIn e)
-
-answer-small : (text : List ℕ) (room : ℕ) (values : List ℕ) (next : ℕ) → lineAt text 0 rowsKey ≡ found values next → head values ≤ 32
-    → (f : Found) → rowsAt rowKeys text next (head values) ≡ f → (n : ℕ) (also : List ℕ) → rowsAnswer room f ≡ refused n also → head also ≤ 1836
-unfolding alsoIn
-answer-small text room values next line few (fault j) rows n also e =
-    omega (arith, ap alsoIn e, rows-reach text next (head values), ap reached rows, line-reach text 0 rowsKey, ap reached line)
-answer-small text room values next line few (found words last) rows n also e =
-    by (rowsChecked (tableOf words)) refl e
-  where
-    short : (b : Bool) → orRefused b (refused 13 []) (accepted (length (tableOf words) ∷ [])) ≡ refused n also → head also ≤ 1836
-    short true e = omega (arith, ap alsoIn e)
-    short false e = omega (arith, ap alsoIn e)
-
-    by : (a : Answer) → rowsChecked (tableOf words) ≡ a
-        → after a (orRefused (leb (length words) room) (refused 13 []) (accepted (length (tableOf words) ∷ []))) ≡ refused n also → head also ≤ 1836
-    by (accepted vs) g e = short (leb (length words) room) e
-    by (refused m more) g e =
-        omega (arith, ap alsoIn e, rows-refused-small (tableOf words) m more g, table-length words, words-many text line rows)
-
-pub refused-small : (text : List ℕ) (room n : ℕ) (also : List ℕ) → readAnswer text room ≡ refused n also → head also ≤ 1836
-unfolding readAnswer alsoIn
-refused-small text room n also e = by (lineAt text 0 rowsKey) refl e
-  where
-    rest : (values : List ℕ) (next : ℕ) → lineAt text 0 rowsKey ≡ found values next → (a b : Bool) → leb (head values) 32 ≡ b
-        → orRefused a (refused 2 []) (orRefused b (refused 3 []) (rowsAnswer room (rowsAt rowKeys text next (head values)))) ≡ refused n also
-        → head also ≤ 1836
-    rest values next line false b g e = omega (arith, ap alsoIn e)
-    rest values next line true false g e = omega (arith, ap alsoIn e)
-    rest values next line true true g e =
-        answer-small text room values next line (leb-true (head values) 32 g) (rowsAt rowKeys text next (head values)) refl n also e
-
-    by : (f : Found) → lineAt text 0 rowsKey ≡ f → firstAnswer text room f ≡ refused n also → head also ≤ 1836
-    by (fault j) g e = omega (arith, ap alsoIn e, line-reach text 0 rowsKey, ap reached g)
-    by (found values next) g e = rest values next g (ltb 0 (head values)) (leb (head values) 32) refl e
 
 -- An input may be cut behind its first 1,848 bytes: twelve of the first line, and what reading a task text looks at.
 pub printed-cut : (input : List ℕ) (m : ℕ) → 1848 ≤ m → printed (take m input) ≡ printed input
@@ -100,10 +45,12 @@ printed-cut input m h =
     ap (textPrinted (take m input)) (line-short input m 0 ticksKey (omega arith)) ∙ by (lineAt input 0 ticksKey) refl
   where
     text : (values : List ℕ) (next : ℕ) → next ≤ 12 → (a : Answer) → readAnswer (drop next input) 224 ≡ a
-        → answerPrinted (head values) next (wordsRead (take (m - next) (drop next input))) a ≡ answerPrinted (head values) next (wordsRead (drop next input)) a
+        → answerPrinted (head values) next (wordsRead rowKeys (take (m - next) (drop next input))) a ≡ answerPrinted (head values) next (wordsRead rowKeys (drop next input)) a
     text values next l (refused n also) e = refl
     text values next l (accepted rows) e =
-        ap (λ (z : List ℕ). runPrinted (tableOf z) (head values)) (words-short (drop next input) (m - next) 224 rows (omega arith) e)
+        let s = read-says (drop next input) 224 rows e in
+        ap (λ (z : List ℕ). runPrinted (tableOf z) (head values))
+        (words-short rowKeys (omega arith) (drop next input) (m - next) (omega arith) (s .ns) (s .lines))
 
     by : (f : Found) → lineAt input 0 ticksKey ≡ f → textPrinted (take m input) f ≡ textPrinted input f
     by (fault j) e = refl
@@ -111,8 +58,8 @@ printed-cut input m h =
         let l : next ≤ 12 = omega (arith, line-reach input 0 ticksKey, ap reached e) in
         let cut : drop next (take m input) ≡ take (m - next) (drop next input) =
         let e : next + (m - next) ≡ m = omega arith in ap (λ (z : ℕ). drop next (take z input)) (sym e) ∙ sym (take-drop next (m - next) input) in
-        ap (λ (z : List ℕ). answerPrinted (head values) next (wordsRead z) (readAnswer z 224)) cut
-        ∙ ap (answerPrinted (head values) next (wordsRead (take (m - next) (drop next input)))) (read-short-text (drop next input) (m - next) 224 (omega arith))
+        ap (λ (z : List ℕ). answerPrinted (head values) next (wordsRead rowKeys z) (readAnswer z 224)) cut
+        ∙ ap (answerPrinted (head values) next (wordsRead rowKeys (take (m - next) (drop next input)))) (read-short-text (drop next input) (m - next) 224 (omega arith))
         ∙ text values next l (readAnswer (drop next input) 224) refl
 
 -- the bytes that lines of numbers take, at most
@@ -168,7 +115,8 @@ run-most tasks n h =
       rows-most tasks s (length tasks),
     )
 
-refusal-most : (n : ℕ) (also : List ℕ) → length (refusalPrinted n also) ≤ 5120
+-- a refusal takes few bytes
+pub refusal-most : (n : ℕ) (also : List ℕ) → length (refusalPrinted n also) ≤ 33
 refusal-most n [] = omega (arith, numbers-most (refusedKey ∷ []) (n ∷ []))
 refusal-most n (at ∷ more) = omega (arith, numbers-most (refusedKey ∷ atKey ∷ []) (n ∷ at ∷ []))
 
@@ -178,30 +126,28 @@ unfolding printed
 printed-most input = by (lineAt input 0 ticksKey)
   where
     text : (values : List ℕ) (next : ℕ) (a : Answer) → readAnswer (drop next input) 224 ≡ a
-        → length (answerPrinted (head values) next (wordsRead (drop next input)) a) ≤ 5120
-    text values next (refused n also) e = refusal-most n (placed next n also)
+        → length (answerPrinted (head values) next (wordsRead rowKeys (drop next input)) a) ≤ 5120
+    text values next (refused n also) e = omega (arith, refusal-most n (placed next n also))
     text values next (accepted rows) e =
         let t = read-write (drop next input) 224 rows e in
-        run-most (tableOf (wordsRead (drop next input))) (head values) (omega (arith, table-length (wordsRead (drop next input)), t .high))
+        run-most (tableOf (wordsRead rowKeys (drop next input))) (head values) (omega (arith, table-length (wordsRead rowKeys (drop next input)), t .high))
 
     by : (f : Found) → length (textPrinted input f) ≤ 5120
-    by (fault j) = refusal-most 12 (j ∷ [])
+    by (fault j) = omega (arith, refusal-most 12 (j ∷ []))
     by (found values next) = text values next (readAnswer (drop next input) 224) refl
 
 -- the printing program as a function, by its cases
 module _ (input room : List ℕ) where
   pub report-short : length room < length (printed input) → (reportAnswer input (length room) ≡ refused 13 []) × (reportRoom input room ≡ room)
   unfolding reportAnswer reportRoom
-  report-short h = let e = lt-leb (length (printed input)) (length room) h in (rw e, rw e)
+  report-short h = let e = put-short (printed input) (length room) h in (e, put-kept (printed input) room e)
 
   pub report-accepted : length (printed input) ≤ length room
       → (reportAnswer input (length room) ≡ accepted (length (printed input) ∷ [])) × (reportRoom input room ≡ printed input ++ drop (length (printed input)) room)
   unfolding reportAnswer reportRoom
-  report-accepted h = let e = le-leb (length (printed input)) (length room) h in (rw e, rw e)
+  report-accepted h = let e = put-accepted (printed input) (length room) h in (e, put-filled (printed input) room e)
 
 -- so the program's own room is never too short
 pub report-fits : (input : List ℕ) (m : ℕ) → accepted (m ∷ []) ≡ reportAnswer input 5120 → m ≤ 5120
 unfolding reportAnswer
-report-fits input m e =
-    let f : reportAnswer input 5120 ≡ accepted (length (printed input) ∷ []) = rw (le-leb (length (printed input)) 5120 (printed-most input)) in
-    omega (arith, ap valueOf (e ∙ f), printed-most input)
+report-fits input m e = let s = put-says (printed input) 5120 (sym e) in omega (arith, s .0, ap head (s .1))

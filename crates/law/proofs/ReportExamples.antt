@@ -10,7 +10,7 @@ use Rattle.law.specs.Verdict.{demand, load, fitsAt, response, fits, misf
 use Rattle.law.specs.Tick.{fresh, nextPlace, release, choose, outcome, advance, shifted, marks, spare, settled, releaseAll, advanceAll, finish, begin, tick, run}
 use Rattle.law.specs.State.{countsOf}
 use Rattle.law.specs.Text.{keysOf, isDigit, numberFrom, lines}
-use Rattle.law.specs.Reading.{keyLength, digitsLength, valueLength, valueOfLength, valueAt, lineAt, linesAt, rowsAt, textRead, readAnswer, wordsRead, decimalOf, decimal}
+use Rattle.law.specs.Reading.{keyLength, digitsLength, valueLength, valueOfLength, valueAt, lineAt, linesAt, rowsAt, textRead, wordsRead, textAnswer, readAnswer, decimalOf, decimal}
 use Rattle.law.specs.Report.{verdictPrinted, responsePrinted, rowPrinted, rowsPrinted, statePrinted, runPrinted, printed}
 
 input : List ℕ
@@ -22,5 +22,5 @@ output =
     118 ∷ 101 ∷ 114 ∷ 100 ∷ 105 ∷ 99 ∷ 116 ∷ 61 ∷ 97 ∷ 100 ∷ 109 ∷ 105 ∷ 116 ∷ 116 ∷ 101 ∷ 100 ∷ 10 ∷ 116 ∷ 105 ∷ 99 ∷ 107 ∷ 115 ∷ 61 ∷ 50 ∷ 52 ∷ 10 ∷ 105 ∷ 100 ∷ 108 ∷ 101 ∷ 61 ∷ 48 ∷ 10 ∷ 114 ∷ 111 ∷ 119 ∷ 61 ∷ 48 ∷ 10 ∷ 105 ∷ 100 ∷ 61 ∷ 49 ∷ 49 ∷ 10 ∷ 114 ∷ 61 ∷ 50 ∷ 10 ∷ 114 ∷ 101 ∷ 108 ∷ 101 ∷ 97 ∷ 115 ∷ 101 ∷ 100 ∷ 61 ∷ 54 ∷ 10 ∷ 109 ∷ 109 ∷ 61 ∷ 51 ∷ 10 ∷ 109 ∷ 120 ∷ 61 ∷ 48 ∷ 10 ∷ 111 ∷ 109 ∷ 61 ∷ 50 ∷ 10 ∷ 111 ∷ 120 ∷ 61 ∷ 49 ∷ 10 ∷ 98 ∷ 114 ∷ 111 ∷ 107 ∷ 101 ∷ 110 ∷ 61 ∷ 48 ∷ 10 ∷ 115 ∷ 112 ∷ 97 ∷ 114 ∷ 101 ∷ 61 ∷ 49 ∷ 10 ∷ 114 ∷ 111 ∷ 119 ∷ 61 ∷ 49 ∷ 10 ∷ 105 ∷ 100 ∷ 61 ∷ 49 ∷ 50 ∷ 10 ∷ 114 ∷ 61 ∷ 54 ∷ 10 ∷ 114 ∷ 101 ∷ 108 ∷ 101 ∷ 97 ∷ 115 ∷ 101 ∷ 100 ∷ 61 ∷ 52 ∷ 10 ∷ 109 ∷ 109 ∷ 61 ∷ 51 ∷ 10 ∷ 109 ∷ 120 ∷ 61 ∷ 48 ∷ 10 ∷ 111 ∷ 109 ∷ 61 ∷ 48 ∷ 10 ∷ 111 ∷ 120 ∷ 61 ∷ 49 ∷ 10 ∷ 98 ∷ 114 ∷ 111 ∷ 107 ∷ 101 ∷ 110 ∷ 61 ∷ 48 ∷ 10 ∷ 115 ∷ 112 ∷ 97 ∷ 114 ∷ 101 ∷ 61 ∷ 48 ∷ 10 ∷ []
 
 example-printed : printed input ≡ output
-unfolding input output printed runPrinted statePrinted rowsPrinted rowPrinted responsePrinted verdictPrinted countsOf readAnswer wordsRead textRead rowsAt linesAt lineAt valueAt valueOfLength valueLength digitsLength keyLength numberFrom isDigit keysOf lines decimal decimalOf rowsChecked faulty faultOf repeated tableOf taskOf within build firstFrom largest ceil sum mapFrom among mandatory count kindOf countOf demand load fitsAt response fits misfit admitted fresh nextPlace release choose outcome advance shifted marks spare settled releaseAll advanceAll finish begin tick run
+unfolding input output printed runPrinted statePrinted rowsPrinted rowPrinted responsePrinted verdictPrinted countsOf readAnswer textAnswer wordsRead textRead rowsAt linesAt lineAt valueAt valueOfLength valueLength digitsLength keyLength numberFrom isDigit keysOf lines decimal decimalOf rowsChecked faulty faultOf repeated tableOf taskOf within build firstFrom largest ceil sum mapFrom among mandatory count kindOf countOf demand load fitsAt response fits misfit admitted fresh nextPlace release choose outcome advance shifted marks spare settled releaseAll advanceAll finish begin tick run
 example-printed = refl

@@ -6,7 +6,7 @@ use Rattle.law.specs.Sums.{firstFrom, build}
 use Rattle.law.specs.Refusal.{Answer, accepted, refused, within}
 use Rattle.law.specs.Table.{taskOf, tableOf, repeated, faultOf, faulty, rowsChecked}
 use Rattle.law.specs.Text.{rowKeys, keysOf, isDigit, numberFrom, lines}
-use Rattle.law.specs.Reading.{keyLength, digitsLength, valueLength, valueOfLength, valueAt, lineAt, linesAt, rowsAt, textRead, readAnswer, wordsRead, decimalOf, decimal, textOf}
+use Rattle.law.specs.Reading.{keyLength, digitsLength, valueLength, valueOfLength, valueAt, lineAt, linesAt, rowsAt, textRead, wordsRead, textAnswer, readAnswer, decimalOf, decimal, textOf}
 
 -- the words of document 01's table, and its text
 words : List ℕ
@@ -17,10 +17,10 @@ text =
     114 ∷ 111 ∷ 119 ∷ 115 ∷ 61 ∷ 50 ∷ 10 ∷ 105 ∷ 100 ∷ 61 ∷ 49 ∷ 49 ∷ 10 ∷ 99 ∷ 61 ∷ 50 ∷ 10 ∷ 116 ∷ 61 ∷ 52 ∷ 10 ∷ 100 ∷ 61 ∷ 52 ∷ 10 ∷ 109 ∷ 61 ∷ 49 ∷ 10 ∷ 107 ∷ 61 ∷ 50 ∷ 10 ∷ 112 ∷ 61 ∷ 48 ∷ 10 ∷ 105 ∷ 100 ∷ 61 ∷ 49 ∷ 50 ∷ 10 ∷ 99 ∷ 61 ∷ 52 ∷ 10 ∷ 116 ∷ 61 ∷ 54 ∷ 10 ∷ 100 ∷ 61 ∷ 54 ∷ 10 ∷ 109 ∷ 61 ∷ 50 ∷ 10 ∷ 107 ∷ 61 ∷ 51 ∷ 10 ∷ 112 ∷ 61 ∷ 48 ∷ 10 ∷ []
 
 text-read : readAnswer text 14 ≡ accepted (2 ∷ [])
-unfolding readAnswer text keyLength digitsLength valueLength valueOfLength valueAt lineAt linesAt rowsAt firstFrom isDigit within numberFrom keysOf rowsChecked tableOf taskOf build faulty faultOf repeated
+unfolding readAnswer textAnswer wordsRead textRead text keyLength digitsLength valueLength valueOfLength valueAt lineAt linesAt rowsAt firstFrom isDigit within numberFrom keysOf rowsChecked tableOf taskOf build faulty faultOf repeated
 text-read = refl
 
-text-words : wordsRead text ≡ words
+text-words : wordsRead rowKeys text ≡ words
 unfolding wordsRead words textRead text keyLength digitsLength valueLength valueOfLength valueAt lineAt linesAt rowsAt firstFrom isDigit within numberFrom keysOf
 text-words = refl
 
@@ -52,5 +52,5 @@ answers =
 -- Texts with a fault, or refused before one is looked for: the empty text; no LF; a leading zero; six digits; a CR; `rows=0` and `rows=99999` with
 -- rubbish after them; k before m; no line of p; p before k; two lines of p; p 2; a byte after the end.
 faults : map (λ (bytes : List ℕ). readAnswer bytes 7) faulted ≡ answers
-unfolding readAnswer faulted answers keyLength digitsLength valueLength valueOfLength valueAt lineAt linesAt rowsAt firstFrom isDigit within numberFrom keysOf rowsChecked tableOf taskOf build faulty faultOf repeated
+unfolding readAnswer textAnswer wordsRead textRead faulted answers keyLength digitsLength valueLength valueOfLength valueAt lineAt linesAt rowsAt firstFrom isDigit within numberFrom keysOf rowsChecked tableOf taskOf build faulty faultOf repeated
 faults = refl

@@ -6,35 +6,36 @@ use native.Mathlib.Omega.{arith}
 use lib.ListN.{length, length-append}
 use Rattle.law.specs.Sums.{firstFrom, build}
 use Rattle.law.specs.Refusal.{accepted, within}
-use Rattle.law.specs.Table.{width, taskOf, taskAt, tableOf, Ranged, repeated, faultOf, faulty, rowsChecked, checked}
-use Rattle.law.specs.Text.{rowKeys, keysOf, lines}
+use Rattle.law.specs.Table.{Task, width, taskOf, taskAt, tableOf, Ranged, repeated, faultOf, faulty, rowsChecked, checked}
+use Rattle.law.specs.Text.{rowKeys, oldKeys, keysOf, lines}
 use Rattle.law.specs.Reading.{decimalOf, decimal, textOf}
 use Rattle.law.proofs.Words.{Rows, none, more, task-behind, table-rows}
 use Rattle.law.proofs.TextDecimal.{decimal-longest}
 
--- the lines of a row, before those of the rows behind it
-row-longest : (id c t d m k p : ℕ) (rest : List ℕ) (keys : List (List ℕ)) → Ranged (taskAt (id ∷ c ∷ t ∷ d ∷ m ∷ k ∷ p ∷ rest) 0)
-    → length (lines (rowKeys ++ keys) (map decimal (id ∷ c ∷ t ∷ d ∷ m ∷ k ∷ p ∷ rest))) ≤ 47 + length (lines keys (map decimal rest))
-unfolding lines taskOf
-row-longest id c t d m k p rest keys r =
+-- the first six lines of a row, before those behind them
+pub row-longest : (r : Task) (rest : List ℕ) (keys : List (List ℕ)) → Ranged r
+    → length (lines (oldKeys ++ keys) (map decimal (r .id ∷ r .c ∷ r .t ∷ r .d ∷ r .m ∷ r .k ∷ rest))) ≤ 43 + length (lines keys (map decimal rest))
+unfolding lines
+row-longest r rest keys g =
     let small : (v : ℕ) → v ≤ 65535 → length (decimal v) ≤ 5 = λ v h. decimal-longest 4 v (omega arith) in
     let few : (v : ℕ) → v ≤ 64 → length (decimal v) ≤ 2 = λ v h. decimal-longest 1 v (omega arith) in
-    let one = small id (r .id-high) in
-    let two = small c (r .c-high) in
-    let three = small t (r .t-high) in
-    let four = small d (omega arith) in
-    simp length-append (omega (arith, one, two, three, four, few m (omega arith), few k (r .pair .k-high), decimal-longest 0 p (omega (arith, r .p-high))))
+    let one = small (r .id) (g .id-high) in
+    let two = small (r .c) (g .c-high) in
+    let three = small (r .t) (g .t-high) in
+    let four = small (r .d) (omega (arith, g .d-high, g .t-high)) in
+    let five = few (r .m) (omega (arith, g .pair .m-high, g .pair .k-high)) in
+    simp length-append (omega (arith, one, two, three, four, five, few (r .k) (g .pair .k-high)))
 
+-- all seven: p has one digit
 rows-longest : (n : ℕ) (words : List ℕ) → Rows n words → ((i : ℕ) → i < n → Ranged (taskAt words i))
     → length (lines (keysOf rowKeys n) (map decimal words)) ≤ n * 47
-unfolding keysOf lines
+unfolding keysOf lines taskOf
 rows-longest n words none ranged = omega arith
 rows-longest n words (more id c t d m k p {n = less} {rest = rest} rows) ranged =
-    omega (
-      arith,
-      row-longest id c t d m k p rest (keysOf rowKeys less) (ranged 0 (omega arith)),
-      rows-longest less rest rows (λ i h. subst Ranged (task-behind id c t d m k p rest i) (ranged (suc i) (omega arith))),
-    )
+    let r = ranged 0 (omega arith) in
+    let six = row-longest (taskAt words 0) (p ∷ rest) ((112 ∷ 61 ∷ []) ∷ keysOf rowKeys less) r in
+    let behind = rows-longest less rest rows (λ i h. subst Ranged (task-behind id c t d m k p rest i) (ranged (suc i) (omega arith))) in
+    omega (arith, six, length-append (decimal p) (10 ∷ lines (keysOf rowKeys less) (map decimal rest)), decimal-longest 0 p (omega (arith, r .p-high)), behind)
 
 -- "The longest accepted text is 1,512 bytes."
 pub text-longest : (words vs : List ℕ) → checked words ≡ accepted vs → length (textOf rowKeys words) ≤ 1512
@@ -45,9 +46,9 @@ text-longest words vs e =
     simp length-append (omega (arith, decimal-longest 1 n (omega (arith, a .high)), rows-longest n words (a .rows) (a .ranged)))
 
 -- 32 rows of the longest values
-pub longest : ℕ → List ℕ
+unfoldable pub longest : ℕ → List ℕ
 longest zero = []
-longest (suc n) = (10000 + n) ∷ 65535 ∷ 65535 ∷ 65535 ∷ 64 ∷ 64 ∷ 1 ∷ longest n
+longest (suc n) = (10000 + n) ∷ 65535 ∷ 65535 ∷ 65535 ∷ 64 ∷ 64 ∷ 0 ∷ longest n
 
 pub longest-accepted : checked (longest 32) ≡ accepted (32 ∷ [])
 unfolding longest checked rowsChecked tableOf taskOf build faulty faultOf repeated firstFrom within

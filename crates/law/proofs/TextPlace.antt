@@ -9,14 +9,15 @@ use native.Mathlib.Omega.{arith}
 use lib.ListN.{length, take, drop, length-append, length-take, length-map, take-append-drop, drop-of-length-le}
 use lib.Seq.{take-take, take-at, length-take-le}
 use lib.Dec.{leb, ltb}
-use borrow.Author.Tests.{lt-ltb, le-leb, eq-eqb, ne-eqb}
+use borrow.Author.Tests.{eq-eqb, ne-eqb}
 use Rattle.law.specs.Sums.{every}
 use Rattle.law.specs.Refusal.{Answer, accepted, refused, orRefused, after, head, codeOf, valueOf}
-use Rattle.law.specs.Table.{tableOf, rowsChecked}
+use Rattle.law.specs.Table.{Task, tableOf, rowsChecked}
 use Rattle.law.specs.Text.{rowsKey, rowKeys, keysOf, isValue, numberOf, lines, IsText, Begins, FaultAt}
-use Rattle.law.specs.Reading.{found, fault, valuesOf, lineAt, linesAt, rowsAt, textRead, rowsAnswer, firstAnswer, readAnswer}
+use Rattle.law.specs.Reading.{found, fault, valuesOf, lineAt, linesAt, rowsAt, textRead, wordsRead, rowsFound, firstFound, textAnswer, readAnswer}
 use Rattle.law.proofs.Tests.{both-left, both-right, both-true}
 use Rattle.law.proofs.Table.{rows-number, row-number-not}
+use Rattle.law.proofs.TextAnswers.{text-twelve-first, text-twelve, read-lines}
 use Rattle.law.proofs.TextLine.{isKey, reached, Line, line-whole, line-sound, line-stuck, line-local}
 use Rattle.law.proofs.TextLines.{came, fell, outcome, came-fell, line-ahead, Lines, lines-whole, lines-sound, lines-stuck, whole-behind, line-before, zeros, zeros-good, zeros-many, lines-front, keys-bytes, lines-low, lines-local}
 
@@ -288,7 +289,7 @@ place-exact keys bytes text j f =
       | fell i e ↦ e ∙ ap fault (fault-once (place-sound keys bytes text i e) f)
     ]
 
--- the answer of reading: number 12 comes with the place of the rule
+-- the answers of reading: number 12 comes with the place of the rule
 pub row-keys : every isKey rowKeys ≡ true
 unfolding every
 row-keys = refl
@@ -299,48 +300,63 @@ passed-by : (b : Bool) (n : ℕ) (also : List ℕ) (next : Answer) → (n ≡ 12
 passed-by true n also next h e = e
 passed-by false n also next h e = absurd (h (ap codeOf e))
 
-rows-not-twelve : (room next : ℕ) (words also : List ℕ) → rowsAnswer room (found words next) ≡ refused 12 also → ⊥
-rows-not-twelve room next words also e = by (rowsChecked (tableOf words)) refl e
-  where
-    by : (a : Answer) → rowsChecked (tableOf words) ≡ a
-        → after a (orRefused (leb (length words) room) (refused 13 []) (accepted (length (tableOf words) ∷ []))) ≡ refused 12 also → ⊥
-    by (accepted vs) c e = absurd (omega (arith, ap codeOf (passed-by (leb (length words) room) 13 also _ (λ q. omega arith) e)))
-    by (refused n vs) c e =
-        let twelve : n ≡ 12 = ap codeOf e in
-        absurd (row-number-not (rows-number (tableOf words) n vs c) (omega arith) (omega arith))
-
-rows-twelve : (text : List ℕ) (room at n j : ℕ) → rowsAnswer room (rowsAt rowKeys text at n) ≡ refused 12 (j ∷ [])
-    → rowsAt rowKeys text at n ≡ fault j
-rows-twelve text room at n j e =
-    elim (outcome (rowsAt rowKeys text at n)) [
-      | came words next f ↦ absurd (rows-not-twelve room next words (j ∷ []) (sym (ap (rowsAnswer room) f) ∙ e))
-      | fell i f ↦ f ∙ ap fault (ap valueOf (sym (ap (rowsAnswer room) f) ∙ e))
+rows-twelve : (keys : List (List ℕ)) (text : List ℕ) (at n j : ℕ) → rowsFound n (rowsAt keys text at n) ≡ refused 12 (j ∷ [])
+    → rowsAt keys text at n ≡ fault j
+rows-twelve keys text at n j e =
+    elim (outcome (rowsAt keys text at n)) [
+      | came words next f ↦ absurd (omega (arith, ap codeOf (sym (ap (rowsFound n) f) ∙ e)))
+      | fell i f ↦ f ∙ ap fault (ap valueOf (sym (ap (rowsFound n) f) ∙ e))
     ]
 
-twelve-read : (text : List ℕ) (room j : ℕ) → readAnswer text room ≡ refused 12 (j ∷ []) → textRead rowKeys text ≡ fault j
-unfolding readAnswer
-twelve-read text room j e =
+twelve-read : (keys : List (List ℕ)) (text : List ℕ) (j : ℕ) → textAnswer keys text ≡ refused 12 (j ∷ []) → textRead keys text ≡ fault j
+unfolding textAnswer
+twelve-read keys text j e =
     elim (outcome (lineAt text 0 rowsKey)) [
-      | fell i f ↦ read-cut rowKeys text i f ∙ ap fault (ap valueOf (sym (ap (firstAnswer text room) f) ∙ e))
+      | fell i f ↦ read-cut keys text i f ∙ ap fault (ap valueOf (sym (ap (firstFound keys text) f) ∙ e))
       | came count next f ↦
-          let low = passed-by (ltb 0 (head count)) 2 (j ∷ []) _ (λ q. omega arith) (sym (ap (firstAnswer text room) f) ∙ e) in
+          let low = passed-by (ltb 0 (head count)) 2 (j ∷ []) _ (λ q. omega arith) (sym (ap (firstFound keys text) f) ∙ e) in
           let high = passed-by (leb (head count) 32) 3 (j ∷ []) _ (λ q. omega arith) low in
-          read-on rowKeys text count next f ∙ rows-twelve text room next (head count) j high
+          read-on keys text count next f ∙ rows-twelve keys text next (head count) j high
     ]
+
+pub lines-twelve : (keys : List (List ℕ)) → every isKey keys ≡ true → (text : List ℕ) (j : ℕ) → textAnswer keys text ≡ refused 12 (j ∷ [])
+    → FaultAt keys text j
+lines-twelve keys bytes text j e = place-sound keys bytes text j (twelve-read keys text j e)
+
+-- what follows accepted lines has another number: so 12 is theirs
+pub twelve-before : (a next : Answer) (also : List ℕ) → (next ≡ refused 12 also → ⊥) → after a next ≡ refused 12 also → a ≡ refused 12 also
+twelve-before (accepted vs) next also h e = absurd (h e)
+twelve-before (refused n more) next also h e = e
+
+pub rows-not-twelve : (tasks : List Task) (also : List ℕ) → rowsChecked tasks ≡ refused 12 also → ⊥
+rows-not-twelve tasks also e = row-number-not (rows-number tasks 12 also e) (omega arith) (omega arith)
+
+pub table-not-twelve : (tasks : List Task) (next : Answer) (also : List ℕ) → (next ≡ refused 12 also → ⊥)
+    → after (rowsChecked tasks) next ≡ refused 12 also → ⊥
+table-not-twelve tasks next also h e = rows-not-twelve tasks also (twelve-before (rowsChecked tasks) next also h e)
+
+pub room-not-twelve : (b : Bool) (vs also : List ℕ) → orRefused b (refused 13 []) (accepted vs) ≡ refused 12 also → ⊥
+room-not-twelve b vs also e = omega (arith, ap codeOf (passed-by b 13 also (accepted vs) (λ q. omega arith) e))
 
 pub refused-twelve : (text : List ℕ) (room j : ℕ) → readAnswer text room ≡ refused 12 (j ∷ []) → FaultAt rowKeys text j
-refused-twelve text room j e = place-sound rowKeys row-keys text j (twelve-read text room j e)
+unfolding readAnswer
+refused-twelve text room j e =
+    lines-twelve rowKeys row-keys text j
+    (twelve-before (textAnswer rowKeys text) _ (j ∷ [])
+    (table-not-twelve (tableOf (wordsRead rowKeys text)) _ (j ∷ []) (room-not-twelve (leb (length (wordsRead rowKeys text)) room) _ (j ∷ []))) e)
 
 -- the first line that leads to 12: it is not whole, or its number of rows is in its range
 pub data LeadsOn (text : List ℕ) : Type 0 where
   broken : (i : ℕ) → lineAt text 0 rowsKey ≡ fault i → LeadsOn text
   counts : (n next : ℕ) → lineAt text 0 rowsKey ≡ found (n ∷ []) next → 1 ≤ n → n ≤ 32 → LeadsOn text
 
+pub lines-exact : (keys : List (List ℕ)) → every isKey keys ≡ true → (text : List ℕ) (j : ℕ) → FaultAt keys text j → LeadsOn text
+    → textAnswer keys text ≡ refused 12 (j ∷ [])
+lines-exact keys bytes text j f (broken i e) =
+    let same : fault i ≡ fault j = sym (read-cut keys text i e) ∙ place-exact keys bytes text j f in
+    text-twelve-first keys text (e ∙ same)
+lines-exact keys bytes text j f (counts n next e low high) =
+    text-twelve keys text e low high (sym (read-on keys text (n ∷ []) next e) ∙ place-exact keys bytes text j f)
+
 pub twelve-exact : (text : List ℕ) (room j : ℕ) → FaultAt rowKeys text j → LeadsOn text → readAnswer text room ≡ refused 12 (j ∷ [])
-unfolding readAnswer
-twelve-exact text room j f (broken i e) =
-    let same : fault i ≡ fault j = sym (read-cut rowKeys text i e) ∙ place-exact rowKeys row-keys text j f in
-    ap (firstAnswer text room) (e ∙ same)
-twelve-exact text room j f (counts n next e low high) =
-    let rows : rowsAt rowKeys text next n ≡ fault j = sym (read-on rowKeys text (n ∷ []) next e) ∙ place-exact rowKeys row-keys text j f in
-    rw (e, lt-ltb 0 n low, le-leb n 32 high, rows)
+twelve-exact text room j f l = read-lines text room (lines-exact rowKeys row-keys text j f l)

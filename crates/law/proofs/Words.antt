@@ -3,6 +3,7 @@ use mathlib.Core.Bool.{Bool, true}
 use mathlib.Core.List.{List, [], _∷_}
 use mathlib.Core.Path.{_≡_, refl, ap, _∙_, subst}
 use Prim.Native.Nat.{ℕ, zero, suc, _+_, _*_, _/_, _≤_, _<_}
+use native.Mathlib.Nat.{suc-mul}
 use native.Mathlib.Omega.{arith}
 use lib.Dec.{leb}
 use lib.ListN.{length, getD}
@@ -29,6 +30,10 @@ rows-of (suc n) (a ∷ b ∷ c ∷ []) e = absurd (omega arith)
 rows-of (suc n) (a ∷ b ∷ c ∷ d ∷ []) e = absurd (omega arith)
 rows-of (suc n) (a ∷ b ∷ c ∷ d ∷ f ∷ []) e = absurd (omega arith)
 rows-of (suc n) (a ∷ b ∷ c ∷ d ∷ f ∷ g ∷ []) e = absurd (omega arith)
+
+pub rows-length : {n : ℕ} {words : List ℕ} → Rows n words → length words ≡ n * width
+rows-length none = refl
+rows-length (more id c t d m k p {n = n} rows) = omega (arith, rows-length rows, suc-mul n width)
 
 -- the rows behind the first
 pub task-behind : (a b c d e f g : ℕ) (rest : List ℕ) (i : ℕ) → taskAt (a ∷ b ∷ c ∷ d ∷ e ∷ f ∷ g ∷ rest) (suc i) ≡ taskAt rest i

@@ -11,3 +11,4 @@ pub mod Promise
 pub mod Text
 pub mod Reading
 pub mod Report
+pub mod Carry

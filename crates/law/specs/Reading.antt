@@ -77,30 +77,40 @@ abbrev pub valuesOf : Found → List ℕ
 valuesOf (found values next) = values
 valuesOf (fault j) = []
 
--- "the remaining lines (12), rows (4 to 10), 13" (16 before 10); else the number of rows
-abbrev pub rowsAnswer : ℕ → Found → Answer
-rowsAnswer room (found words next) =
-    after (rowsChecked (tableOf words)) (orRefused (leb (length words) room) (refused 13 []) (accepted (length (tableOf words) ∷ [])))
-rowsAnswer room (fault j) = refused 12 (j ∷ [])
+-- the words of a text's rows
+unfoldable pub wordsRead : List (List ℕ) → List ℕ → List ℕ
+wordsRead keys text = valuesOf (textRead keys text)
+
+-- "the remaining lines (12)"; else the number of rows
+abbrev pub rowsFound : ℕ → Found → Answer
+rowsFound n (found words next) = accepted (n ∷ [])
+rowsFound n (fault j) = refused 12 (j ∷ [])
 
 -- "the first line (12), its value (2, 3)", then the rows
-abbrev pub firstAnswer : List ℕ → ℕ → Found → Answer
-firstAnswer text room (found values next) =
+abbrev pub firstFound : List (List ℕ) → List ℕ → Found → Answer
+firstFound keys text (found values next) =
     orRefused (ltb 0 (head values)) (refused 2 [])
-    (orRefused (leb (head values) 32) (refused 3 []) (rowsAnswer room (rowsAt rowKeys text next (head values))))
-firstAnswer text room (fault j) = refused 12 (j ∷ [])
+    (orRefused (leb (head values) 32) (refused 3 []) (rowsFound (head values) (rowsAt keys text next (head values))))
+firstFound keys text (fault j) = refused 12 (j ∷ [])
 
--- reading a text into a lent room of words
+-- a text of rows of these keys: the refusals of its lines, else the number of rows
+unfoldable pub textAnswer : List (List ℕ) → List ℕ → Answer
+textAnswer keys text = firstFound keys text (lineAt text 0 rowsKey)
+
+-- reading a text into a lent room of words: "the first line (12), its value (2, 3), the remaining lines (12), rows (4 to 10), 13" (16 before
+-- 10); else the number of rows
 unfoldable pub readAnswer : List ℕ → ℕ → Answer
-readAnswer text room = firstAnswer text room (lineAt text 0 rowsKey)
-
-unfoldable pub wordsRead : List ℕ → List ℕ
-wordsRead text = valuesOf (textRead rowKeys text)
+readAnswer text room =
+    after (textAnswer rowKeys text)
+    (after (rowsChecked (tableOf (wordsRead rowKeys text)))
+    (orRefused (leb (length (wordsRead rowKeys text)) room) (refused 13 []) (accepted (length (tableOf (wordsRead rowKeys text)) ∷ []))))
 
 -- "an accepted call alters only the room its answer fills, from the start"
+abbrev pub filled : List ℕ → List ℕ → List ℕ
+filled new room = new ++ drop (length new) room
+
 unfoldable pub readRoom : List ℕ → List ℕ → List ℕ
-readRoom text room =
-    lent (readAnswer text (length room)) (wordsRead text ++ drop (length (wordsRead text)) room) room
+readRoom text room = lent (readAnswer text (length room)) (filled (wordsRead rowKeys text) room) room
 
 -- a number by its digits: as many as it has, up to n of them
 unfoldable pub decimalOf : ℕ → ℕ → List ℕ
@@ -116,12 +126,16 @@ unfoldable pub textOf : List (List ℕ) → List ℕ → List ℕ
 textOf keys words =
     lines (rowsKey ∷ keysOf keys (length words / length keys)) (map decimal ((length words / length keys) ∷ words))
 
+-- a text put into a lent room of bytes: 13; else its length
+unfoldable pub putAnswer : List ℕ → ℕ → Answer
+putAnswer text room = orRefused (leb (length text) room) (refused 13 []) (accepted (length text ∷ []))
+
+unfoldable pub putRoom : List ℕ → List ℕ → List ℕ
+putRoom text room = lent (putAnswer text (length room)) (filled text room) room
+
 -- writing a table's words into a lent room of bytes: the refusals of the table, then 13; else the length of the text
 unfoldable pub writeAnswer : List ℕ → ℕ → Answer
-writeAnswer words room =
-    after (checked words)
-    (orRefused (leb (length (textOf rowKeys words)) room) (refused 13 []) (accepted (length (textOf rowKeys words) ∷ [])))
+writeAnswer words room = after (checked words) (putAnswer (textOf rowKeys words) room)
 
 unfoldable pub writeRoom : List ℕ → List ℕ → List ℕ
-writeRoom words room =
-    lent (writeAnswer words (length room)) (textOf rowKeys words ++ drop (length (textOf rowKeys words)) room) room
+writeRoom words room = lent (writeAnswer words (length room)) (filled (textOf rowKeys words) room) room

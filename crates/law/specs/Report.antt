@@ -1,16 +1,16 @@
 -- Document 01, "The printing program": every byte that it prints, from the bytes it reads.
 use mathlib.Core.List.{List, [], _∷_, _++_, map}
 use Prim.Native.Nat.{ℕ, zero, suc, _+_}
-use lib.Dec.{leb, eqb}
+use lib.Dec.{eqb}
 use lib.ListN.{length, getD, drop}
 use Rattle.law.specs.Sums.{pick}
-use Rattle.law.specs.Refusal.{Answer, accepted, refused, orRefused, lent, head}
+use Rattle.law.specs.Refusal.{Answer, accepted, refused, head}
 use Rattle.law.specs.Table.{Task, row, tableOf}
 use Rattle.law.specs.Verdict.{admitted, misfit, response}
 use Rattle.law.specs.Tick.{State, noRow, fresh, run}
 use Rattle.law.specs.State.{countsOf}
-use Rattle.law.specs.Text.{lines}
-use Rattle.law.specs.Reading.{Found, found, fault, lineAt, readAnswer, wordsRead, decimal}
+use Rattle.law.specs.Text.{rowKeys, lines}
+use Rattle.law.specs.Reading.{Found, found, fault, lineAt, wordsRead, readAnswer, decimal, putAnswer, putRoom}
 
 -- ticks=
 abbrev pub ticksKey : List ℕ
@@ -101,7 +101,7 @@ answerPrinted n start words (refused number also) = refusalPrinted number (place
 -- the task text behind the first line; 224 words are room for every table
 abbrev pub textPrinted : List ℕ → Found → List ℕ
 textPrinted input (found values next) =
-    answerPrinted (head values) next (wordsRead (drop next input)) (readAnswer (drop next input) 224)
+    answerPrinted (head values) next (wordsRead rowKeys (drop next input)) (readAnswer (drop next input) 224)
 textPrinted input (fault j) = refusalPrinted 12 (j ∷ [])
 
 -- "It reads standard input: a line `ticks=N` (same value rule; a fault there is 12), then a task text"
@@ -110,9 +110,7 @@ printed input = textPrinted input (lineAt input 0 ticksKey)
 
 -- the printing program as a function, with a lent room for what is printed: 13 where it is too short; else the length
 unfoldable pub reportAnswer : List ℕ → ℕ → Answer
-reportAnswer input room =
-    orRefused (leb (length (printed input)) room) (refused 13 []) (accepted (length (printed input) ∷ []))
+reportAnswer input room = putAnswer (printed input) room
 
 unfoldable pub reportRoom : List ℕ → List ℕ → List ℕ
-reportRoom input room =
-    lent (reportAnswer input (length room)) (printed input ++ drop (length (printed input)) room) room
+reportRoom input room = putRoom (printed input) room

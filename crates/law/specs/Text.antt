@@ -25,6 +25,13 @@ rowKeys =
     ∷ (112 ∷ 61 ∷ [])
     ∷ []
 
+-- document 02, 4/14: "six-line files": the old form, a row's first six lines
+abbrev pub oldWidth : ℕ
+oldWidth = 6
+
+abbrev pub oldKeys : List (List ℕ)
+oldKeys = take oldWidth rowKeys
+
 -- the keys of n rows, one row after the other
 unfoldable pub keysOf : List (List ℕ) → ℕ → List (List ℕ)
 keysOf keys zero = []
