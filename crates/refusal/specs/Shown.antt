@@ -4,7 +4,7 @@ use mathlib.Core.List.{List, [], _∷_}
 use Prim.Native.Nat.{ℕ}
 use Rattle.law.specs.Refusal.{Answer, refused}
 use Rattle.refusal.specs.declared.Refusal.{Refusal}
-use Rattle.refusal.specs.declared.Refusal.the-variants.{NotWholeRows, NoRows, ManyRows, Id, T, D, C, K, M, Repeated, Unschedulable, Text, Room, State, Clock, P}
+use Rattle.refusal.specs.declared.Refusal.the-variants.{NotWholeRows, NoRows, ManyRows, Id, T, D, C, K, M, Repeated, Unschedulable, Text, Room, State, Clock, P, NotOld}
 
 abbrev pub numberOf : Refusal → ℕ
 numberOf NotWholeRows = 1
@@ -23,6 +23,7 @@ numberOf Room = 13
 numberOf State = 14
 numberOf Clock = 15
 numberOf (P row) = 16
+numberOf (NotOld row) = 17
 
 abbrev pub alsoOf : Refusal → List ℕ
 alsoOf NotWholeRows = []
@@ -41,6 +42,7 @@ alsoOf Room = []
 alsoOf State = []
 alsoOf Clock = []
 alsoOf (P row) = row ∷ []
+alsoOf (NotOld row) = row ∷ []
 
 -- whether there is one
 abbrev pub isSome : List ℕ → Bool

@@ -21,6 +21,7 @@ pub enum Refusal {
     State,
     Clock,
     P(u64),
+    NotOld(u64),
 }
 
 // The number of a refusal in documents 01 and 02.
@@ -44,6 +45,7 @@ pub fn number(r: Refusal) -> u64
         Refusal::State => 14,
         Refusal::Clock => 15,
         Refusal::P(_) => 16,
+        Refusal::NotOld(_) => 17,
     }
 }
 
@@ -68,6 +70,7 @@ pub fn also(r: Refusal) -> u64
         Refusal::State => 0,
         Refusal::Clock => 0,
         Refusal::P(row) => row,
+        Refusal::NotOld(row) => row,
     }
 }
 
@@ -92,6 +95,7 @@ pub fn has_also(r: Refusal) -> bool
         Refusal::State => false,
         Refusal::Clock => false,
         Refusal::P(_) => true,
+        Refusal::NotOld(_) => true,
     }
 }
 

@@ -1,5 +1,4 @@
-pub mod Chain
+pub mod Numbers
 pub mod Judged
 pub mod Counted
 pub mod Whole
-pub mod Placed

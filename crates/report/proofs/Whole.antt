@@ -19,7 +19,7 @@ use Rattle.dispatch.proofs.Begun.{begun-run}
 use Rattle.line.specs.Put.{putAt}
 use Rattle.line.proofs.Pieces.{put-then, put-length}
 use Rattle.report.specs.Said.{Good}
-use Rattle.report.proofs.Chain.{Lined}
+use Rattle.line.proofs.Chain.{Lined}
 
 -- the state after the run
 module _ {words : List ℕ} (good : Good words) (n : ℕ) (early : n ≤ clockEnd) {first state : List ℕ}

@@ -11,7 +11,7 @@ use line::put::put_bytes;
 use line::read::Value;
 use line::read::line_at;
 use line::read::place;
-use print::print_refusal;
+use line::refused::put_refusal;
 use print::print_run;
 use refusal::Refusal;
 use table::WIDTH;
@@ -32,12 +32,12 @@ fn print_all(input: &[u8], out: &mut [u8]) -> usize
 {
     let answer = line_at(input, 0, b"ticks=");
     let Value::Is(ticks, next) = answer else {
-        return print_refusal(out, Refusal::Text(place(answer) as u64), 0);
+        return put_refusal(out, Refusal::Text(place(answer) as u64), 0);
     };
     let mut words = [0u32; 224];
     match read(&input[next..], &mut words) {
         Reading::Rows(rows) => print_run(out, &words[..rows * WIDTH], ticks as u32),
-        Reading::Refused(r) => print_refusal(out, r, next as u64),
+        Reading::Refused(r) => put_refusal(out, r, next as u64),
     }
 }
 

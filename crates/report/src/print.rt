@@ -3,11 +3,9 @@ ghost use mathlib.Core.List.{_∷_};
 ghost use mathlib.Core.Path.{_≡_};
 ghost use Prim.Native.Nat.{_+_, _≤_, _<_};
 ghost use lib.ListN.{length, replicate};
-ghost use Rattle.law.specs.Refusal.{head};
 ghost use Rattle.law.specs.Table.{tableOf};
 ghost use Rattle.law.specs.State.{stateOf, tasksOf};
-ghost use Rattle.law.specs.Report.{refusalPrinted, placed, printedKeys, numberLines, verdictPrinted, rowsPrinted, runPrinted};
-ghost use Rattle.refusal.specs.Shown.{numberOf, alsoOf};
+ghost use Rattle.law.specs.Report.{printedKeys, numberLines, verdictPrinted, rowsPrinted, runPrinted};
 ghost use Rattle.rows.specs.Said.{Held};
 ghost use Rattle.dispatch.specs.Shown.{countsSaid};
 ghost use Rattle.line.specs.Put.{putAt};
@@ -18,39 +16,11 @@ use dispatch::run::run_words;
 use dispatch::start::fresh_words;
 use line::put::put_bytes;
 use line::put::put_line;
-use refusal::Refusal;
 use refusal::also;
-use refusal::has_also;
-use refusal::number;
 use table::WIDTH;
 use table::task_at;
 use verdict::Verdict;
 use verdict::judge;
-
-// The row or place that is printed with a refusal. A place in the task text counts from the first byte of the input: the text begins at `start`.
-fn printed_place(r: Refusal, start: u64) -> u64
-    requires { ⌜ start + head (alsoOf r) ≤ 4294967295 ⌝ }
-    ensures { λ n. ⌜ n ≡ head (placed start (numberOf r) (alsoOf r)) ⌝ }
-{
-    if number(r) == 12 {
-        start + also(r)
-    } else {
-        also(r)
-    }
-}
-
-// A refusal: its number, then the row or place where there is one.
-pub(crate) fn print_refusal(out: &mut [u8], r: Refusal, start: u64) -> usize
-    requires { ⌜ (length (now out) ≡ 5120) × (start + head (alsoOf r) ≤ 4294967295) ⌝ }
-    ensures place { λ n. ⌜ n ≡ length (refusalPrinted (numberOf r) (placed start (numberOf r) (alsoOf r))) ⌝ }
-    ensures bytes { λ n. ⌜ now (out .exit) ≡ putAt (now (out .entry)) 0 (refusalPrinted (numberOf r) (placed start (numberOf r) (alsoOf r))) ⌝ }
-{
-    let at = put_line(out, 0, b"refused=", number(r));
-    if has_also(r) {
-        return put_line(out, at, b"at=", printed_place(r, start));
-    }
-    at
-}
 
 // The lines of a row: its number, id and response time, its counts and spare.
 fn print_row(out: &mut [u8], at: usize, i: usize, id: u64, r: u64, c: Counts) -> usize

@@ -1,6 +1,7 @@
 -- How the reader's answers are read as the law's.
 use mathlib.Core.List.{List, [], _∷_}
-use Prim.Native.Nat.{ℕ}
+use Prim.Native.Nat.{ℕ, _*_}
+use lib.ListN.{take}
 use Rattle.law.specs.Refusal.{Answer, accepted}
 use Rattle.law.specs.Reading.{Found, found, fault}
 use Rattle.refusal.specs.Shown.{shown as refusalShown}
@@ -18,3 +19,8 @@ told (Broken j) values = fault j
 abbrev pub shown : Reading → Answer
 shown (Rows n) = accepted (n ∷ [])
 shown (Refused r) = refusalShown r
+
+-- the words of a text's rows that stand from the start of these words, so many a row; of a refused text those that were to stand there
+abbrev pub stood : Reading → ℕ → List ℕ → List ℕ → List ℕ
+stood (Rows n) width words due = take (n * width) words
+stood (Refused r) width words due = due

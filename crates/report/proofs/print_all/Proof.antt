@@ -8,6 +8,7 @@ use lib.Seq.{take-at, take-all}
 use borrow.Author.Needs.{needs}
 use Rattle.law.specs.Refusal.{accepted, refused, head}
 use Rattle.law.specs.Table.{tableOf}
+use Rattle.law.specs.Text.{rowKeys}
 use Rattle.law.specs.Reading.{found, fault, lineAt, readAnswer, readRoom, wordsRead}
 use Rattle.law.specs.Report.{ticksKey, refusalPrinted, runPrinted, printed}
 use Rattle.law.proofs.TextLine.{reached, line-sound}
@@ -15,7 +16,8 @@ use Rattle.law.proofs.TextSteps.{line-small}
 use Rattle.law.proofs.TextReach.{line-reach}
 use Rattle.law.proofs.TextAnswers.{read-filled}
 use Rattle.law.proofs.TextTrips.{Trip, read-write}
-use Rattle.law.proofs.Report.{printed-unread, printed-refused, printed-run, refused-small}
+use Rattle.law.proofs.Report.{printed-unread, printed-refused, printed-run}
+use Rattle.law.proofs.TextSmall.{refused-small}
 use Rattle.refusal.specs.Shown.{numberOf, alsoOf}
 use Rattle.line.specs.Said.{said, placeOf}
 use Rattle.text.specs.Said.{shown}
@@ -79,16 +81,16 @@ good w = sym (sym (ap shown (w .rows .given .1)) ∙ reading (readOf w))
 trip : (w : tie.After-rows) → Trip (text (readOf w)) 224 (w .rows .given .0 .0 ∷ [])
 trip w = read-write (text (readOf w)) 224 _ (good w)
 
-whole-rows : (w : tie.After-rows) → length (wordsRead (text (readOf w))) ≡ w .rows .given .0 .0 * 7
+whole-rows : (w : tie.After-rows) → length (wordsRead rowKeys (text (readOf w))) ≡ w .rows .given .0 .0 * 7
 whole-rows w = let t = trip w in t .whole ∙ ap (λ (z : List ℕ). head z * 7) (sym (t .rows))
 
-laid : (w : tie.After-rows) → readOf w .read .last .1 .0 ≡ wordsRead (text (readOf w)) ++ drop (length (wordsRead (text (readOf w)))) (replicate 224 0)
+laid : (w : tie.After-rows) → readOf w .read .last .1 .0 ≡ wordsRead rowKeys (text (readOf w)) ++ drop (length (wordsRead rowKeys (text (readOf w)))) (replicate 224 0)
 laid w = filled (readOf w) ∙ read-filled (text (readOf w)) (replicate 224 0) (good w)
 
-front : (w : tie.After-rows) → take (w .rows .given .0 .0 * 7) (readOf w .read .last .1 .0) ≡ wordsRead (text (readOf w))
+front : (w : tie.After-rows) → take (w .rows .given .0 .0 * 7) (readOf w .read .last .1 .0) ≡ wordsRead rowKeys (text (readOf w))
 front w =
     ap (take (w .rows .given .0 .0 * 7)) (laid w)
-    ∙ take-at (wordsRead (text (readOf w))) _ (w .rows .given .0 .0 * 7) (whole-rows w)
+    ∙ take-at (wordsRead rowKeys (text (readOf w))) _ (w .rows .given .0 .0 * 7) (whole-rows w)
 
 -- a refused one
 refusedOf : (r : tie.After-r) → readAnswer (text (r .before .before .before)) 224 ≡ refused (numberOf (r .r .given .0 .0)) (alsoOf (r .r .given .0 .0))
@@ -109,10 +111,10 @@ enum-told c = search needs
 place-requires : tie.Need-place-requires
 place-requires c κs = search needs
 
-print-refusal-requires : tie.Need-print-refusal-requires
-print-refusal-requires c κs =
+put-refusal-requires : tie.Need-put-refusal-requires
+put-refusal-requires c κs =
     let t = c .before .before in
-    (begun (brokenOf t) .pre, omega (arith, place-is c, line-reach (input (brokenOf t)) 0 ticksKey, ap reached (broken t)))
+    (omega (arith, begun (brokenOf t) .pre), omega (arith, place-is c, line-reach (input (brokenOf t)) 0 ticksKey, ap reached (broken t)))
 
 same-length : tie.Need-same-length
 same-length c = search needs
@@ -121,7 +123,7 @@ returns : tie.Need-returns
 returns c =
     let p = c .before .before .before in
     let t = p .before .before in
-    let q = c .before .before .print-refusal .ensures in
+    let q = c .before .before .put-refusal .ensures in
     let e : refusalPrinted 12 ((0 + p .place .result) ∷ []) ≡ printed (input (brokenOf t)) =
     let same : 0 + p .place .result ≡ t .enum-told .given .0 .0 = omega (arith, place-is p) in
     ap (λ (z : ℕ). refusalPrinted 12 (z ∷ [])) same ∙ sym (printed-unread (input (brokenOf t)) (broken t)) in
@@ -151,7 +153,7 @@ mul-words c = let w = c .before .before in omega (arith, whole-rows w, trip w .f
 array-share-prefix-words : tie.Need-array-share-prefix-words
 array-share-prefix-words c =
     let w = c .before .before in
-    omega (arith, ap length (laid w), length-append (wordsRead (text (readOf w))) (drop (length (wordsRead (text (readOf w)))) (replicate 224 0)), whole-rows w)
+    omega (arith, ap length (laid w), length-append (wordsRead rowKeys (text (readOf w))) (drop (length (wordsRead rowKeys (text (readOf w)))) (replicate 224 0)), whole-rows w)
 
 slice-aggregate-print-run : tie.Need-slice-aggregate-print-run
 slice-aggregate-print-run c = let w = c .before .before .before in sym (ap length (front w) ∙ whole-rows w)
@@ -167,11 +169,11 @@ print-run-requires c κs =
 enum-known-r : tie.Need-enum-known-r
 enum-known-r c = search needs
 
-print-refusal-requires-2 : tie.Need-print-refusal-requires-2
-print-refusal-requires-2 c κs =
+put-refusal-requires-2 : tie.Need-put-refusal-requires-2
+put-refusal-requires-2 c κs =
     let r = c .before .before in
     let a = answered (r .before .before .before) in (
-      begun (lineOf a) .pre,
+      omega (arith, begun (lineOf a) .pre),
       omega (arith, refused-small _ 224 _ _ (refusedOf r), line-reach (input (lineOf a)) 0 ticksKey, ap reached (line a)),
     )
 
@@ -194,7 +196,7 @@ returns-3 : tie.Need-returns-3
 returns-3 c =
     let r = c .before .before .before .before .before in
     let a = answered (r .before .before .before) in
-    let q = c .before .before .print-refusal2 .ensures in
+    let q = c .before .before .put-refusal2 .ensures in
     let e = sym (printed-refused (input (lineOf a)) (line a) (refusedOf r)) in
     (q .0 ∙ ap length e, q .1 ∙ ap (putAt _ 0) e)
 
@@ -207,7 +209,7 @@ print-all-spec =
     enum-known-answer
     enum-told
     place-requires
-    print-refusal-requires
+    put-refusal-requires
     same-length
     returns
     sub-read
@@ -222,7 +224,7 @@ print-all-spec =
     cast-print-run
     print-run-requires
     enum-known-r
-    print-refusal-requires-2
+    put-refusal-requires-2
     same-length-2
     returns-2
     same-length-3

@@ -6,7 +6,8 @@ use lib.ListN.{getD, take}
 use borrow.Author.Needs.{needs}
 use Rattle.law.specs.Report.{printedKeys}
 use Rattle.dispatch.specs.Shown.{countsSaid}
-use Rattle.report.proofs.Chain.{Lined, lined-none, lined-long, lined-fits, lined-next, small-at}
+use Rattle.line.proofs.Chain.{Lined, lined-none, lined-long, lined-fits, lined-next}
+use Rattle.report.proofs.Numbers.{small-at}
 use Rattle.report.proofs.print.print_row.Statement.{statement}
 use Rattle.report.proofs.print.print_row.Tie as tie
 

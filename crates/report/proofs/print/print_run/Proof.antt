@@ -11,7 +11,7 @@ use Rattle.law.specs.Report.{ticksKey, idleKey, verdictPrinted, rowsPrinted, ru
 use Rattle.law.proofs.Report.{verdict-most}
 use Rattle.line.specs.Put.{putAt}
 use Rattle.line.proofs.Pieces.{put-length}
-use Rattle.report.proofs.Chain.{Lined, lined-none, lined-long, lined-fits, lined-next}
+use Rattle.line.proofs.Chain.{Lined, lined-none, lined-long, lined-fits, lined-next}
 use Rattle.report.proofs.Whole.{after-is, after-held, after-tasks, after-idle, idle-small, whole-printed}
 use Rattle.report.proofs.print.print_run.Statement.{statement}
 use Rattle.report.proofs.print.print_run.Tie as tie

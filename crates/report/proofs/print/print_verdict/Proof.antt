@@ -17,7 +17,8 @@ use Rattle.line.specs.Put.{putAt, lineOf}
 use Rattle.line.proofs.Pieces.{put-then, put-length}
 use Rattle.verdict.specs.Said.{shown}
 use Rattle.report.specs.Said.{Responded}
-use Rattle.report.proofs.Chain.{line-most, number-some}
+use Rattle.line.proofs.Chain.{line-most}
+use Rattle.report.proofs.Numbers.{number-some}
 use Rattle.report.proofs.Judged.{good-few, told-admitted, told-late}
 use Rattle.report.proofs.print.print_verdict.Statement.{statement}
 use Rattle.report.proofs.print.print_verdict.Tie as tie

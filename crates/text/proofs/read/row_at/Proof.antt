@@ -4,50 +4,59 @@ use mathlib.Core.Path.{_≡_, refl, sym, ap, _∙_}
 use Prim.Native.Nat.{ℕ, suc, _+_, _-_, _*_, _≤_, _<_}
 use native.Mathlib.Numerals.{add-one}
 use native.Mathlib.Omega.{arith}
-use lib.ListN.{length, getD, take, drop, set, length-set, length-drop}
-use lib.Seq.{drop-cons, drop-set-add, take-suc-set, take-set-le}
+use lib.ListN.{length, getD, take, drop, set, length-set, length-drop, drop-of-length-le}
+use lib.Seq.{length-take-le, getD-take, drop-cons, drop-set-add, take-suc-set, take-set-le}
 use borrow.Author.Needs.{needs}
 use Rattle.law.specs.Text.{rowKeys}
 use Rattle.law.specs.Reading.{found, fault, lineAt}
+use Rattle.law.proofs.Relaid.{in-rows}
 use Rattle.law.proofs.TextSteps.{ReadSo, so-start, so-next, so-fault, so-all, line-small}
 use Rattle.line.specs.Said.{said, placeOf}
 use Rattle.text.proofs.read.row_at.Statement.{statement}
 use Rattle.text.proofs.read.row_at.Tie as tie
 
-record Reading (text : List ℕ) (from : ℕ) (old : List ℕ) (row : ℕ) (words : List ℕ) (at j : ℕ) : Type 0 where
-  so : ReadSo text from rowKeys (take j (drop (row * 7) words)) (drop j rowKeys) at
-  kept : take (row * 7) words ≡ take (row * 7) old
+record Reading (text : List ℕ) (from : ℕ) (old : List ℕ) (row width : ℕ) (words : List ℕ) (at j : ℕ) : Type 0 where
+  so : ReadSo text from (take width rowKeys) (take j (drop (row * width) words)) (drop j (take width rowKeys)) at
+  kept : take (row * width) words ≡ take (row * width) old
   long : length words ≡ 224
   in-table : row < 32
-  reached : j ≤ 7
+  narrow : width ≤ 7
+  reached : j ≤ width
 
-module _ {text : List ℕ} {from : ℕ} {old : List ℕ} {row : ℕ} {words : List ℕ} {at j : ℕ} (r : Reading text from old row words at j) (h : j < 7) where
+-- a row's word lies within the words
+inside : (row width j : ℕ) → row < 32 → width ≤ 7 → j < width → row * width + j < 224
+inside row width j h n l = omega (arith, in-rows width 32 row j h l)
+
+module _ {text : List ℕ} {from : ℕ} {old : List ℕ} {row width : ℕ} {words : List ℕ} {at j : ℕ} (r : Reading text from old row width words at j) (h : j < width) where
   -- the key that is due, and those behind it
-  due : ReadSo text from rowKeys (take j (drop (row * 7) words)) (getD rowKeys j [] ∷ drop (suc j) rowKeys) at
-  due = rw (drop-cons rowKeys j [] h) at (r .so)
+  due : ReadSo text from (take width rowKeys) (take j (drop (row * width) words)) (getD rowKeys j [] ∷ drop (suc j) (take width rowKeys)) at
+  due =
+      rw (drop-cons (take width rowKeys) j [] (omega (arith, length-take-le width rowKeys (r .narrow))), getD-take width rowKeys j [] h) at (r .so)
 
   -- one word more
-  word-laid : (v : ℕ) → take (suc j) (drop (row * 7) (set words (row * 7 + j) v)) ≡ take j (drop (row * 7) words) ++ (v ∷ [])
+  word-laid : (v : ℕ) → take (suc j) (drop (row * width) (set words (row * width + j) v)) ≡ take j (drop (row * width) words) ++ (v ∷ [])
   word-laid v =
-      ap (take (suc j)) (drop-set-add (row * 7) words j v)
-      ∙ take-suc-set (drop (row * 7) words) j v (omega (arith, length-drop (row * 7) words, r .long, r .in-table))
+      ap (take (suc j)) (drop-set-add (row * width) words j v)
+      ∙ take-suc-set (drop (row * width) words) j v
+      (omega (arith, length-drop (row * width) words, r .long, inside row width j (r .in-table) (r .narrow) h))
 
   next-line : {v next : ℕ} → lineAt text at (getD rowKeys j []) ≡ found (v ∷ []) next
-      → Reading text from old row (set words (row * 7 + j) v) next (j + 1)
+      → Reading text from old row width (set words (row * width + j) v) next (j + 1)
   next-line {v} {next} e =
       record {
         so = rw (add-one, word-laid v) (so-next due e);
-        kept = take-set-le (row * 7) words (row * 7 + j) v (omega arith) ∙ r .kept;
+        kept = take-set-le (row * width) words (row * width + j) v (omega arith) ∙ r .kept;
         long = simp length-set (r .long);
         in-table = r .in-table;
+        narrow = r .narrow;
         reached = omega arith;
       }
 
 abbrev Inv-loop : tie.InvT-loop
-Inv-loop text from words₀ row at₀ j₀ words at j = Reading text from words₀ row words at j
+Inv-loop text from words₀ row width at₀ j₀ words at j = Reading text from words₀ row width words at j
 
 abbrev μ-loop : tie.MeasureT-loop
-μ-loop text from words₀ row at₀ j₀ words at j = 7 - j
+μ-loop text from words₀ row width at₀ j₀ words at j = width - j
 
 abbrev Taken : Type 0
 Taken = tie.After-known-told Inv-loop μ-loop
@@ -63,13 +72,19 @@ line : (c : Taken) → lineAt (start (turn c) .args .text .now) (turn c .before 
     ≡ found (c .before .answer .given .0 .0 ∷ []) (c .before .answer .given .0 .1 .0)
 line c = sym (c .before .before .before .value-from .ensures) ∙ ap said (c .before .answer .given .1)
 
+-- where its word goes
+placed : (c : Taken) → start (turn c) .args .row * start (turn c) .args .width + turn c .before .loop .j < 224
+placed c =
+    let l = turn c .before .loop in
+    inside (start (turn c) .args .row) (start (turn c) .args .width) (l .j) (l .inv .in-table) (l .inv .narrow) (turn c .loop-test .taken)
+
 loop-holds : tie.Need-loop-holds Inv-loop μ-loop
 loop-holds c =
     let p = c .before .pre in
-    record { so = so-start (p .0); kept = refl; long = p .1; in-table = p .2; reached = omega arith }
+    record { so = so-start (p .0); kept = refl; long = p .1; in-table = p .2; narrow = p .3; reached = omega arith }
 
 value-from-requires : tie.Need-value-from-requires Inv-loop μ-loop
-value-from-requires c κs = (c .before .loop .inv .so .inside, c .loop-test .taken)
+value-from-requires c κs = (c .before .loop .inv .so .inside, omega (arith, c .loop-test .taken, c .before .loop .inv .narrow))
 
 enum-known-answer : tie.Need-enum-known-answer Inv-loop μ-loop
 enum-known-answer c = search needs
@@ -92,16 +107,16 @@ cast-words : tie.Need-cast-words Inv-loop μ-loop
 cast-words c = omega (arith, line-small _ _ _ (line c))
 
 mul-words : tie.Need-mul-words Inv-loop μ-loop
-mul-words c = omega arith
+mul-words c = omega (arith, placed c)
 
 add-words : tie.Need-add-words Inv-loop μ-loop
-add-words c = omega arith
+add-words c = omega (arith, placed c)
 
 mul-words-2 : tie.Need-mul-words-2 Inv-loop μ-loop
-mul-words-2 c = omega arith
+mul-words-2 c = omega (arith, placed c)
 
 element-write-words : tie.Need-element-write-words Inv-loop μ-loop
-element-write-words c = omega arith
+element-write-words c = omega (arith, placed c)
 
 add-j : tie.Need-add-j Inv-loop μ-loop
 add-j c = omega arith
@@ -115,8 +130,11 @@ loop-again c = next-line (turn c .before .loop .inv) (turn c .loop-test .taken) 
 returns-2 : tie.Need-returns-2 Inv-loop μ-loop
 returns-2 c =
     let l = c .before .loop in
-    let e : l .j ≡ 7 = omega (arith, l .inv .reached, c .loop-test .left) in
-    let all = so-all (rw e at (l .inv .so)) in
+    let width = c .before .before .before .args .width in
+    let e : l .j ≡ width = omega (arith, l .inv .reached, c .loop-test .left) in
+    let none : drop width (take width rowKeys) ≡ [] =
+    drop-of-length-le (take width rowKeys) {i = width} (omega (arith, length-take-le width rowKeys (l .inv .narrow))) in
+    let all = so-all (rw (e, none) at (l .inv .so)) in
     (sym all, (l .inv .kept, l .inv .long))
 
 pub row-at-spec : {M : Type 1} → statement M

@@ -1,24 +1,19 @@
 -- Lines put one behind the other: what stands so far, where the next goes, and that there is room for it.
 use mathlib.Core.List.{List, [], _∷_, _++_, map, map-append}
 use mathlib.Core.Path.{_≡_, refl, sym, ap, _∙_}
-use Prim.Native.Nat.{ℕ, zero, suc, _+_, _≤_}
+use Prim.Native.Nat.{ℕ, _+_, _≤_}
 use native.Mathlib.Omega.{arith}
-use lib.Dec.{leb}
-use lib.ListN.{length, getD, length-append, length-map}
-use borrow.Author.Tests.{leb-true}
-use Rattle.law.specs.Sums.{every}
+use lib.ListN.{length, length-append, length-map}
 use Rattle.law.specs.Text.{lines}
 use Rattle.law.specs.Reading.{decimal}
 use Rattle.law.specs.Report.{numberLines}
-use Rattle.law.proofs.Tests.{both-left, both-right}
 use Rattle.law.proofs.TextDecimal.{decimal-ten}
 use Rattle.law.proofs.TextWrite.{lines-append}
 use Rattle.refusal.specs.declared.Refusal.{Refusal}
-use Rattle.refusal.specs.declared.Refusal.the-variants.{NotWholeRows, NoRows, ManyRows, Id, T, D, C, K, M, Repeated, Unschedulable, Text, Room, State, Clock, P}
+use Rattle.refusal.specs.declared.Refusal.the-variants.{NotWholeRows, NoRows, ManyRows, Id, T, D, C, K, M, Repeated, Unschedulable, Text, Room, State, Clock, P, NotOld}
 use Rattle.refusal.specs.Shown.{numberOf}
-use Rattle.report.specs.Said.{Small}
 use Rattle.line.specs.Put.{putAt, lineOf}
 use Rattle.line.proofs.Pieces.{put-none, put-length, put-then, line-length}
 
 -- the lines of these keys and values stand at `at`, in no more than `most` bytes
 pub record Lined (old : List ℕ) (at most : ℕ) (keys : List (List ℕ)) (values : List ℕ) (out : List ℕ) (next : ℕ) : Type 0 where
@@ -70,14 +65,8 @@ module _ {old : List ℕ} {at most : ℕ} {keys : List (List ℕ)} {values out :
         room = h;
       }
 
--- numbers of 32 bits, one by one
-pub small-at : (values : List ℕ) (j : ℕ) → Small values → getD values j 0 ≤ 4294967295
-unfolding every
-small-at [] j e = omega arith
-small-at (v ∷ values) zero e = leb-true v 4294967295 (both-left _ _ e)
-small-at (v ∷ values) (suc j) e = small-at values j (both-right (leb v 4294967295) _ e)
-
-pub number-small : (r : Refusal) → numberOf r ≤ 16
+-- the numbers that there are
+pub number-small : (r : Refusal) → numberOf r ≤ 17
 number-small NotWholeRows = omega arith
 number-small NoRows = omega arith
 number-small ManyRows = omega arith
@@ -94,21 +83,4 @@ number-small Room = omega arith
 number-small State = omega arith
 number-small Clock = omega arith
 number-small (P row) = omega arith
-
-pub number-some : (r : Refusal) → 1 ≤ numberOf r
-number-some NotWholeRows = omega arith
-number-some NoRows = omega arith
-number-some ManyRows = omega arith
-number-some (Id row) = omega arith
-number-some (T row) = omega arith
-number-some (D row) = omega arith
-number-some (C row) = omega arith
-number-some (K row) = omega arith
-number-some (M row) = omega arith
-number-some (Repeated row) = omega arith
-number-some (Unschedulable row) = omega arith
-number-some (Text place) = omega arith
-number-some Room = omega arith
-number-some State = omega arith
-number-some Clock = omega arith
-number-some (P row) = omega arith
+number-small (NotOld row) = omega arith

@@ -1,4 +1,4 @@
--- `report::print::print_refusal` meets its contract: one line, and a second where a row or a place goes with the refusal.
+-- `line::refused::put_refusal` meets its contract: one line, and a second where a row or a place goes with the refusal.
 use mathlib.Core.Bool.{true, false}
 use mathlib.Core.List.{List, [], _∷_}
 use mathlib.Core.Path.{_≡_, refl, sym, ap, _∙_}
@@ -10,11 +10,11 @@ use Rattle.law.specs.Refusal.{head}
 use Rattle.law.proofs.Tests.{never-both}
 use Rattle.law.specs.Report.{refusedKey, atKey, numberLines, refusalPrinted, placed}
 use Rattle.refusal.specs.Shown.{numberOf, alsoOf, isSome}
 use Rattle.line.specs.Put.{putAt}
-use Rattle.report.proofs.Chain.{Lined, lined-none, lined-fits, lined-next, number-small}
-use Rattle.report.proofs.Placed.{place-most, place-some}
-use Rattle.report.proofs.print.print_refusal.Statement.{statement}
-use Rattle.report.proofs.print.print_refusal.Tie as tie
+use Rattle.line.proofs.Chain.{Lined, lined-none, lined-fits, lined-next, number-small}
+use Rattle.line.proofs.Placed.{place-most, place-some}
+use Rattle.line.proofs.refused.put_refusal.Statement.{statement}
+use Rattle.line.proofs.refused.put_refusal.Tie as tie
 
 -- what is printed, by whether there is a row or a place
 with-one : (n : ℕ) (also : List ℕ) → isSome also ≡ true → refusalPrinted n also ≡ numberLines (refusedKey ∷ atKey ∷ []) (n ∷ head also ∷ [])
@@ -107,8 +107,8 @@ returns-2 c =
     let l = put1 p in
     (omega (arith, l .place, ap length e), l .bytes ∙ ap (putAt _ 0) e)
 
-pub print-refusal-spec : {M : Type 1} → statement M
-print-refusal-spec =
+pub put-refusal-spec : {M : Type 1} → statement M
+put-refusal-spec =
     tie.close
     (tie.spec
     slice-aggregate-put-line

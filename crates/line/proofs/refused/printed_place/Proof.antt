@@ -1,11 +1,11 @@
--- `report::print::printed_place` meets its contract: number 12 is moved, every other stays.
+-- `line::refused::printed_place` meets its contract: number 12 is moved, every other stays.
 use mathlib.Core.Path.{sym, ap, _∙_}
 use Prim.Native.Nat.{ℕ, _+_}
 use borrow.Author.Needs.{needs}
 use Rattle.refusal.specs.Shown.{numberOf, alsoOf}
-use Rattle.report.proofs.Placed.{place-twelve, place-other}
-use Rattle.report.proofs.print.printed_place.Statement.{statement}
-use Rattle.report.proofs.print.printed_place.Tie as tie
+use Rattle.line.proofs.Placed.{place-twelve, place-other}
+use Rattle.line.proofs.refused.printed_place.Statement.{statement}
+use Rattle.line.proofs.refused.printed_place.Tie as tie
 
 number-requires : tie.Need-number-requires
 number-requires c κs = search needs
