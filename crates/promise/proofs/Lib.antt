@@ -7,4 +7,5 @@ pub mod TextKept
 pub mod MissesLeft
 pub mod MarksKept
 pub mod EvenToo
+pub mod Carried
 pub mod Once

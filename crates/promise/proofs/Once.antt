@@ -8,7 +8,7 @@ use Rattle.law.specs.Sums.{pick}
 use Rattle.law.specs.Refusal.{Answer, accepted, refused, head}
 use Rattle.refusal.specs.Shown as refusal
 use Rattle.refusal.specs.declared.Refusal.{Refusal}
-use Rattle.refusal.specs.declared.Refusal.the-variants.{NotWholeRows, NoRows, ManyRows, Id, T, D, C, K, M, Repeated, Unschedulable, Text, Room, State, Clock, P}
+use Rattle.refusal.specs.declared.Refusal.the-variants.{NotWholeRows, NoRows, ManyRows, Id, T, D, C, K, M, Repeated, Unschedulable, Text, Room, State, Clock, P, NotOld}
 use Rattle.book.specs.Shown as book
 use Rattle.book.specs.declared.Job.{Job}
 use Rattle.book.specs.declared.Job.the-variants.{Mandatory, Optional, Refused as JobRefused}
@@ -45,7 +45,7 @@ once reading back told {x} {y} e = sym (told x) ∙ ap back e ∙ told y
 -- a refusal, from its number and what is also returned
 refusalOf : ℕ → List ℕ → Refusal
 refusalOf n also =
-    pick (eqb n 1) NotWholeRows (pick (eqb n 2) NoRows (pick (eqb n 3) ManyRows (pick (eqb n 4) (Id (head also)) (pick (eqb n 5) (T (head also)) (pick (eqb n 6) (D (head also)) (pick (eqb n 7) (C (head also)) (pick (eqb n 8) (K (head also)) (pick (eqb n 9) (M (head also)) (pick (eqb n 10) (Repeated (head also)) (pick (eqb n 11) (Unschedulable (head also)) (pick (eqb n 12) (Text (head also)) (pick (eqb n 13) Room (pick (eqb n 14) State (pick (eqb n 15) Clock (P (head also))))))))))))))))
+    pick (eqb n 1) NotWholeRows (pick (eqb n 2) NoRows (pick (eqb n 3) ManyRows (pick (eqb n 4) (Id (head also)) (pick (eqb n 5) (T (head also)) (pick (eqb n 6) (D (head also)) (pick (eqb n 7) (C (head also)) (pick (eqb n 8) (K (head also)) (pick (eqb n 9) (M (head also)) (pick (eqb n 10) (Repeated (head also)) (pick (eqb n 11) (Unschedulable (head also)) (pick (eqb n 12) (Text (head also)) (pick (eqb n 13) Room (pick (eqb n 14) State (pick (eqb n 15) Clock (pick (eqb n 16) (P (head also)) (NotOld (head also)))))))))))))))))
 
 refusal-told : (r : Refusal) → refusalOf (refusal.numberOf r) (refusal.alsoOf r) ≡ r
 unfolding refusalOf
@@ -65,6 +65,7 @@ refusal-told Room = refl
 refusal-told State = refl
 refusal-told Clock = refl
 refusal-told (P row) = refl
+refusal-told (NotOld row) = refl
 
 -- an answer enum that is a value or a refusal
 back : {A : Type 0} → (ℕ → A) → (Refusal → A) → Answer → A

@@ -34,10 +34,10 @@ module _ (words bytes : List ℕ) (n : ℕ) (e : writeAnswer words (length bytes
       let r = write-read words (w .ws) (w .good) (length room) h in
       let a : readAnswer text (length room) ≡ accepted (length (tableOf words) ∷ []) =
       ap (λ (z : List ℕ). readAnswer z (length room)) same ∙ r .0 ∙ ap (λ (z : ℕ). accepted (z ∷ [])) rows-are in
-      let is : wordsRead text ≡ words = ap wordsRead same ∙ r .1 in
-      let whole : length (wordsRead text) ≡ length (tableOf words) * 7 =
+      let is : wordsRead rowKeys text ≡ words = ap (wordsRead rowKeys) same ∙ r .1 in
+      let whole : length (wordsRead rowKeys text) ≡ length (tableOf words) * 7 =
       ap length is ∙ table-rows words (w .ws) (w .good) .whole ∙ ap (λ (z : ℕ). z * 7) rows-are in
-      (a, ap (take (length (tableOf words) * 7)) (read-filled text room a) ∙ take-at (wordsRead text) _ (length (tableOf words) * 7) whole ∙ is)
+      (a, ap (take (length (tableOf words) * 7)) (read-filled text room a) ∙ take-at (wordsRead rowKeys text) _ (length (tableOf words) * 7) whole ∙ is)
 
   pub reads-back : ReadsBack words bytes n
   reads-back =
@@ -47,13 +47,13 @@ module _ (text room : List ℕ) (n : ℕ) (e : readAnswer text (length room) ≡
   t : Trip text (length room) (n ∷ [])
   t = read-write text (length room) (n ∷ []) e
 
-  words-are : wordsLeft text room n ≡ wordsRead text
+  words-are : wordsLeft text room n ≡ wordsRead rowKeys text
   words-are =
-      let whole : length (wordsRead text) ≡ n * 7 = t .whole ∙ ap (λ (z : List ℕ). head z * 7) (sym (t .rows)) in
-      ap (take (n * 7)) (read-filled text room e) ∙ take-at (wordsRead text) _ (n * 7) whole
+      let whole : length (wordsRead rowKeys text) ≡ n * 7 = t .whole ∙ ap (λ (z : List ℕ). head z * 7) (sym (t .rows)) in
+      ap (take (n * 7)) (read-filled text room e) ∙ take-at (wordsRead rowKeys text) _ (n * 7) whole
 
   -- the text left in a room of bytes, whatever words it was written from
-  again : (bytes : List ℕ) → length text ≤ length bytes → (words : List ℕ) → words ≡ wordsRead text
+  again : (bytes : List ℕ) → length text ≤ length bytes → (words : List ℕ) → words ≡ wordsRead rowKeys text
       → (writeAnswer words (length bytes) ≡ accepted (length text ∷ [])) × (textLeft words bytes (length text) ≡ text)
   again bytes h words same =
       let a : writeAnswer words (length bytes) ≡ accepted (length text ∷ []) =

@@ -4,3 +4,4 @@ pub mod TextKept
 pub mod MissesLeft
 pub mod MarksKept
 pub mod EvenToo
+pub mod Carried

@@ -5,10 +5,12 @@ ghost use Rattle.law.specs.Pattern.{question, pairWord};
 ghost use Rattle.law.specs.Table.{checked};
 ghost use Rattle.law.specs.Verdict.{verdict as verdictLaw, verdictRoom};
 ghost use Rattle.law.specs.Reading.{readAnswer, readRoom, writeAnswer, writeRoom};
+ghost use Rattle.law.specs.Carry.{toNewAnswer, toNewRoom, toOldAnswer, toOldRoom};
 ghost use Rattle.law.specs.Report.{reportAnswer, reportRoom};
 ghost use Rattle.law.specs.State.{freshAnswer, freshWords, runAnswer, runWords, savedAnswer, countsAnswer, countsRoom, heldAnswer};
 ghost use Rattle.refusal.specs.Shown.{shown};
 ghost use Rattle.dispatch.specs.Shown.{ranShown};
+ghost use Rattle.text.specs.Written.{shown as writtenShown};
 ghost use Rattle.stand_c.specs.Numbered.{numbered};
 use book::Job;
 use book::Word;
@@ -115,19 +117,43 @@ pub extern "C" fn gp_read(text: &[u8], room: &mut [u32]) -> Answer
     }
 }
 
-// A table's words written as a task text: its length, and the text in the first bytes of the room.
-#[no_mangle]
-pub extern "C" fn gp_write(words: &[u32], room: &mut [u8]) -> Answer
-    ensures answer { λ a. ⌜ a ≡ numbered (writeAnswer (now (words .entry)) (length (now (room .entry)))) ⌝ }
-    ensures room { λ a. ⌜ now (room .exit) ≡ writeRoom (now (words .entry)) (now (room .entry)) ⌝ }
+fn wrote(w: Written) -> Answer
+    ensures { λ a. ⌜ a ≡ numbered (writtenShown w) ⌝ }
 {
-    match text::write::write(words, room) {
+    match w {
         Written::Length(length) => Answer {
             refusal: 0,
             value: length as u64,
         },
         Written::Refused(r) => refused(r),
     }
+}
+
+// A table's words written as a task text: its length, and the text in the first bytes of the room.
+#[no_mangle]
+pub extern "C" fn gp_write(words: &[u32], room: &mut [u8]) -> Answer
+    ensures answer { λ a. ⌜ a ≡ numbered (writeAnswer (now (words .entry)) (length (now (room .entry)))) ⌝ }
+    ensures room { λ a. ⌜ now (room .exit) ≡ writeRoom (now (words .entry)) (now (room .entry)) ⌝ }
+{
+    wrote(text::write::write(words, room))
+}
+
+// An old task text as a new one, with `p=0` in every row, in the first bytes of the room: the length of the new text.
+#[no_mangle]
+pub extern "C" fn gp_to_new(text: &[u8], room: &mut [u8]) -> Answer
+    ensures answer { λ a. ⌜ a ≡ numbered (toNewAnswer (now (text .entry)) (length (now (room .entry)))) ⌝ }
+    ensures room { λ a. ⌜ now (room .exit) ≡ toNewRoom (now (text .entry)) (now (room .entry)) ⌝ }
+{
+    wrote(carry::to_new(text, room))
+}
+
+// A new task text whose every p is 0 as an old one, in the first bytes of the room: the length of the old text.
+#[no_mangle]
+pub extern "C" fn gp_to_old(text: &[u8], room: &mut [u8]) -> Answer
+    ensures answer { λ a. ⌜ a ≡ numbered (toOldAnswer (now (text .entry)) (length (now (room .entry)))) ⌝ }
+    ensures room { λ a. ⌜ now (room .exit) ≡ toOldRoom (now (text .entry)) (now (room .entry)) ⌝ }
+{
+    wrote(carry::to_old(text, room))
 }
 
 fn ran(r: Ran) -> Answer

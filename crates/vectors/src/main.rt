@@ -30,6 +30,8 @@ fn answer(case: &[u64]) {
         9 => texts::write(case),
         10 => texts::print(case),
         11 => run::held(case),
+        12 => texts::to_new(case),
+        13 => texts::to_old(case),
         _ => {}
     }
     io::write_all(STDOUT_FILENO, b"\n");

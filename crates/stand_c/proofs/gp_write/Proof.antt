@@ -1,6 +1,5 @@
--- `stand_c::gp_write` meets its contract: each case of the answer as two numbers, the room as it was left.
-use mathlib.Core.Path.{ap, sym, _∙_}
-use Rattle.text.specs.Written.{shown}
+-- `stand_c::gp_write` meets its contract: the answer as two numbers, the room as it was left.
+use mathlib.Core.Path.{ap, _∙_}
 use Rattle.stand_c.specs.Numbered.{numbered}
 use borrow.Author.Needs.{needs}
 use Rattle.stand_c.proofs.gp_write.Statement.{statement}
@@ -9,42 +8,16 @@ use Rattle.stand_c.proofs.gp_write.Tie as tie
 write-requires : tie.Need-write-requires
 write-requires c κs = search needs
 
-enum-known-length : tie.Need-enum-known-length
-enum-known-length c = search needs
-
-enum-known-r : tie.Need-enum-known-r
-enum-known-r c = search needs
-
-refused-requires : tie.Need-refused-requires
-refused-requires c κs = search needs
+wrote-requires : tie.Need-wrote-requires
+wrote-requires c κs = search needs
 
 same-length : tie.Need-same-length
 same-length c = search needs
 
 returns : tie.Need-returns
 returns c =
-    let r = c .before in
-    let j = r .before .before .before .before .write .ensures in
-    (ap numbered (sym (ap shown (r .length .given .1)) ∙ j .0), j .1)
-
-same-length-2 : tie.Need-same-length-2
-same-length-2 c = search needs
-
-returns-2 : tie.Need-returns-2
-returns-2 c =
-    let r = c .before .before in
-    let j = r .before .before .before .before .write .ensures in
-    (c .refused .ensures ∙ ap numbered (sym (ap shown (r .r .given .1)) ∙ j .0), j .1)
+    let j = c .before .before .before .write .ensures in
+    (c .wrote .ensures ∙ ap numbered (j .0), j .1)
 
 pub gp-write-spec : {M : Type 1} → statement M
-gp-write-spec =
-    tie.close
-    (tie.spec
-    write-requires
-    enum-known-length
-    enum-known-r
-    refused-requires
-    same-length
-    returns
-    same-length-2
-    returns-2)
+gp-write-spec = tie.close (tie.spec write-requires wrote-requires same-length returns)
