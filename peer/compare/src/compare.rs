@@ -1,5 +1,6 @@
 //! The comparisons, part by part.
 
+mod convert;
 mod counts;
 mod dispatch;
 mod held;
@@ -65,6 +66,7 @@ pub fn all() -> impl Iterator<Item = &'static Comparison> {
         red::ALL,
         text::ALL,
         report::ALL,
+        convert::ALL,
     ];
     parts.into_iter().flatten()
 }

@@ -14,6 +14,7 @@ pub use states::{
 pub use tables::{any_table, damaged, faults_in, off_seven, rubbish, run_table, sound, FAULTS};
 pub use texts::{
     any_values, byte_room, byte_room_of, changed, deleted, every_change, inserted, miswritten,
+    one_moved,
 };
 pub use texts::{nameable, one_row_with, rubbish_after, short_text, widest, with_crs};
 pub use texts::{TELLING, VALUE_MAX};

@@ -2,6 +2,7 @@
 #![allow(unsafe_code)]
 
 use peer::answer::Answer;
+use peer::convert::Way;
 
 use crate::lent::Lent;
 
@@ -35,6 +36,8 @@ unsafe extern "C" {
     fn gp_read(text: *const u8, n: usize, room: *mut u32, room_n: usize) -> CAnswer;
     fn gp_write(words: *const u32, n: usize, room: *mut u8, room_n: usize) -> CAnswer;
     fn gp_report(input: *const u8, n: usize, room: *mut u8, room_n: usize) -> CAnswer;
+    fn gp_to_new(text: *const u8, n: usize, room: *mut u8, room_n: usize) -> CAnswer;
+    fn gp_to_old(text: *const u8, n: usize, room: *mut u8, room_n: usize) -> CAnswer;
 }
 
 /// "A question about one job takes m, k and any 32-bit job number."
@@ -136,6 +139,24 @@ pub fn report(input: &[u8], room: &mut [u8]) -> Answer {
     unsafe { gp_report(input.as_ptr(), input.len(), place, length) }.into()
 }
 
+/// A task text carried from one form to the other, its bytes written to the room.
+#[inline]
+pub fn convert(way: Way, text: &[u8], room: &mut [u8]) -> Answer {
+    let (place, length) = (room.as_mut_ptr(), room.len());
+    let carry = carrier(way);
+    // SAFETY: as in [`verdict`], with bytes for both.
+    unsafe { carry(text.as_ptr(), text.len(), place, length) }.into()
+}
+
+/// The function for a way.
+#[inline]
+fn carrier(way: Way) -> unsafe extern "C" fn(*const u8, usize, *mut u8, usize) -> CAnswer {
+    match way {
+        Way::ToNew => gp_to_new,
+        Way::ToOld => gp_to_old,
+    }
+}
+
 /// [`check`] on words whose surroundings are watched.
 ///
 /// A shared slice would let the compiler take it that the words stay as they
@@ -222,4 +243,13 @@ pub fn report_lent(input: &mut Lent<u8>, room: &mut Lent<u8>) -> Answer {
     let (place, length) = (room.pointer(), room.len());
     // SAFETY: as in [`verdict_lent`].
     unsafe { gp_report(bytes, bytes_length, place, length) }.into()
+}
+
+/// [`convert`] on a text and a room whose surroundings are watched.
+pub fn convert_lent(way: Way, text: &mut Lent<u8>, room: &mut Lent<u8>) -> Answer {
+    let (bytes, bytes_length) = (text.pointer(), text.len());
+    let (place, length) = (room.pointer(), room.len());
+    let carry = carrier(way);
+    // SAFETY: as in [`verdict_lent`].
+    unsafe { carry(bytes, bytes_length, place, length) }.into()
 }

@@ -12,3 +12,4 @@ pub mod draw;
 pub mod ffi;
 pub mod lent;
 pub mod place;
+pub mod process;

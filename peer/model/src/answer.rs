@@ -30,6 +30,8 @@ pub mod refusal {
     pub const CLOCK: u64 = 15;
     /// "p above 1" (document 02, 3/14)
     pub const P: u64 = 16;
+    /// "a row with p 1" (document 02, 4/14)
+    pub const P_IS_1: u64 = 17;
 }
 
 /// What a call gives back beside the lent room.
@@ -63,10 +65,10 @@ impl Answer {
     }
 
     /// The row or place "where there is one": the column "also returned" has
-    /// an entry for the numbers 4 to 12, 16 comes "with its row", and no other has one.
+    /// an entry for the numbers 4 to 12, 16 and 17 come "with its row", and no other has one.
     pub const fn at(self) -> Option<u64> {
         match self.refusal {
-            refusal::ID..=refusal::TEXT_FAULT | refusal::P => Some(self.value),
+            refusal::ID..=refusal::TEXT_FAULT | refusal::P | refusal::P_IS_1 => Some(self.value),
             _ => None,
         }
     }

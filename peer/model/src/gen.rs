@@ -1,6 +1,7 @@
 //! Seeded cases for every function: tables, states, texts, inputs of the
 //! printing program and questions about one job, sound and damaged.
 
+mod carried;
 mod faulty;
 mod inputs;
 mod seventh;
@@ -8,6 +9,7 @@ mod states;
 mod tables;
 mod texts;
 
+pub use carried::{carried_text, damage_lines, even, form_read, mixed_forms};
 pub use faulty::{faulty_table, six_words_a_row};
 pub use inputs::{job_question, report_input, special_inputs};
 pub use seventh::seventh_line_texts;

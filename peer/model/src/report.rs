@@ -3,7 +3,7 @@
 use crate::answer::{refusal, Answer};
 use crate::dispatch::{self, State};
 use crate::table::ROWS_MAX;
-use crate::text::{line, read_words, Reader};
+use crate::text::{line, read_words, Reader, KEYS};
 use crate::verdict;
 
 /// "a line `ticks=N` (same value rule; a fault there is 12), then a task text;
@@ -14,7 +14,7 @@ fn asked(input: &[u8]) -> Result<(u32, Vec<u32>), Answer> {
     let ticks = reader
         .value("ticks")
         .map_err(|place| Answer::refused_at(refusal::TEXT_FAULT, place as u64))?;
-    let words = read_words(&mut reader)?;
+    let words = read_words(&mut reader, &KEYS)?;
     Ok((ticks, words))
 }
 
@@ -74,7 +74,7 @@ fn print_counts(out: &mut Vec<u8>, state: &State, responses: &[u32; ROWS_MAX]) {
 
 /// "A refusal prints `refused=` with its number, then `at=` with the row or
 /// place where there is one, and nothing more."
-fn refused(answer: Answer) -> Vec<u8> {
+pub(crate) fn refused(answer: Answer) -> Vec<u8> {
     let mut out = Vec::new();
     line(&mut out, "refused", answer.refusal);
     if let Some(at) = answer.at() {

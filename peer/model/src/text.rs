@@ -11,6 +11,9 @@ pub const TEXT_MAX: usize = 1512;
 /// `p=`" (document 02, 3/14).
 pub const KEYS: [&str; ROW_WORDS] = ["id", "c", "t", "d", "m", "k", "p"];
 
+/// The keys of the old form, document 01's own.
+pub const OLD_KEYS: [&str; ROW_WORDS - 1] = ["id", "c", "t", "d", "m", "k"];
+
 /// "The text reader holds the lent text and a place in it, and gives one value
 /// a call".
 pub struct Reader<'a> {
@@ -91,7 +94,10 @@ fn fault(place: usize) -> Answer {
 /// The words of the task text that the reader still has before it: "For text:
 /// the first line (12), its value (2, 3), the remaining lines (12), rows (4 to
 /// 10)", with 16 among the last. The first line's value is looked at only once the line is whole.
-pub fn read_words(reader: &mut Reader) -> Result<Vec<u32>, Answer> {
+///
+/// A row has a line for each of the keys, in their order; a word that has none is 0, so
+/// the rows of an old text are even ones.
+pub fn read_words(reader: &mut Reader, keys: &[&str]) -> Result<Vec<u32>, Answer> {
     let rows = reader.value("rows").map_err(fault)? as usize;
     if rows == 0 {
         return Err(Answer::refused(refusal::NO_ROWS));
@@ -101,9 +107,11 @@ pub fn read_words(reader: &mut Reader) -> Result<Vec<u32>, Answer> {
     }
     let mut words = Vec::with_capacity(rows * ROW_WORDS);
     for _ in 0..rows {
-        for key in KEYS {
-            words.push(reader.value(key).map_err(fault)?);
+        let mut seven = [0; ROW_WORDS];
+        for (word, key) in seven.iter_mut().zip(keys) {
+            *word = reader.value(key).map_err(fault)?;
         }
+        words.extend(seven);
     }
     reader.end().map_err(fault)?;
     Table::of(&words)?;
@@ -113,7 +121,7 @@ pub fn read_words(reader: &mut Reader) -> Result<Vec<u32>, Answer> {
 /// Reads a task text into the lent words, seven to a row; the last refusal that
 /// can come is 13. The value is the number of rows.
 pub fn read(text: &[u8], room: &mut [u32]) -> Answer {
-    let words = match read_words(&mut Reader::new(text)) {
+    let words = match read_words(&mut Reader::new(text), &KEYS) {
         Ok(words) => words,
         Err(answer) => return answer,
     };
@@ -135,11 +143,16 @@ pub fn line(out: &mut Vec<u8>, key: &str, value: u64) {
 /// The words need not be well formed, so that texts of faulty tables can be
 /// made too; words after the last whole row are left out.
 pub fn text_of(words: &[u32]) -> Vec<u8> {
+    text_in(&KEYS, words)
+}
+
+/// The same in the form that has these keys: a row's words after them are left out.
+pub fn text_in(keys: &[&str], words: &[u32]) -> Vec<u8> {
     let mut out = Vec::new();
     let (sevens, _) = words.as_chunks::<ROW_WORDS>();
     line(&mut out, "rows", sevens.len() as u64);
     for seven in sevens {
-        for (key, word) in KEYS.iter().zip(seven) {
+        for (key, word) in keys.iter().zip(seven) {
             line(&mut out, key, u64::from(*word));
         }
     }
@@ -201,27 +214,30 @@ fn digits(value: u32) -> usize {
         .count()
 }
 
-/// [`write()`] without a text of its own: the length is counted beforehand and
-/// each line goes straight into the room.
+/// [`write()`] without a text of its own: each line goes straight into the room.
 pub fn write_plain(words: &[u32], room: &mut [u8]) -> Answer {
     let answer = table::check(words);
     if !answer.is_accepted() {
         return answer;
     }
+    lay_in(&KEYS, words, room)
+}
+
+/// Lays the text of a table, in the form that has these keys, straight into the
+/// room; its length is counted beforehand.
+pub fn lay_in(keys: &[&str], words: &[u32], room: &mut [u8]) -> Answer {
     let (sevens, _) = words.as_chunks::<ROW_WORDS>();
-    let keys: usize = KEYS.iter().map(|key| key.len() + 2).sum();
-    let values: usize = words.iter().map(|&word| digits(word)).sum();
-    let first = "rows=\n".len() + digits(sevens.len() as u32);
-    let length = first + sevens.len() * keys + values;
-    let Some(room) = room.get_mut(..length) else {
+    let lines = || sevens.iter().flat_map(|seven| keys.iter().zip(seven));
+    let length_of = |key: &str, value: u32| key.len() + digits(value) + 2;
+    let first = length_of("rows", sevens.len() as u32);
+    let rest: usize = lines().map(|(key, word)| length_of(key, *word)).sum();
+    let Some(room) = room.get_mut(..first + rest) else {
         return Answer::refused(refusal::ROOM_TOO_SHORT);
     };
     let mut laid = Laid { room, length: 0 };
     laid.line("rows", sevens.len() as u32);
-    for seven in sevens {
-        for (key, word) in KEYS.iter().zip(seven) {
-            laid.line(key, *word);
-        }
+    for (key, word) in lines() {
+        laid.line(key, *word);
     }
-    Answer::accepted(length as u64)
+    Answer::accepted((first + rest) as u64)
 }

@@ -18,6 +18,8 @@
 //! | `9 room words` | write the table's text | answer, every byte of the room |
 //! | `10 room bytes` | what the printing program prints | answer, every byte of the room |
 //! | `11 room n at value row words` | fresh, n ticks, the word at `at` made `value`, the row's met marks | three answers |
+//! | `12 room bytes` | the new text of an old one | answer, every byte of the room |
+//! | `13 room bytes` | the old text of a new one | answer, every byte of the room |
 //!
 //! An answer is two numbers, the refusal's and the value. `room`, and `counts`
 //! for the seventh operation, are the lengths of lent rooms. A place past the room's

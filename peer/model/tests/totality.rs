@@ -1,5 +1,6 @@
 //! Nothing panics: rubbish through every function.
 
+use peer::convert::{convert, program, Way};
 use peer::counts::held_words;
 use peer::dispatch::{fresh_words, well_formed_words, Row, State};
 use peer::dispatch::{from_words, run, run_words, spare, tick_words, to_words, well_formed};
@@ -74,6 +75,11 @@ fn rubbish_bytes() {
         assert!(answer.value <= bytes.len() as u64);
         assert!(report(&bytes).starts_with(b"refused=12\nat="));
         assert_eq!(report_into(&bytes, &mut []).refusal, 13);
+        for way in [Way::ToNew, Way::ToOld] {
+            assert_eq!(convert(way, &bytes, &mut []), answer);
+            let refused = format!("refused=12\nat={}\n", answer.value);
+            assert_eq!(program(way, &bytes).refused, refused.as_bytes());
+        }
     }
 }
 

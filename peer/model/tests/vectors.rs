@@ -7,7 +7,7 @@ use std::fs;
 use peer::vectors::{answer, answers, cases};
 
 /// The first program reads so many bytes of cases, and so many numbers of one.
-const TEXT_MAX: usize = 400_000;
+const TEXT_MAX: usize = 524_287;
 const NUMBERS_MAX: usize = 2_048;
 
 fn stored(name: &str) -> String {
@@ -71,6 +71,10 @@ fn every_refusal_is_reached() {
     assert_eq!(given(9, 1), with(&[0, 13]));
     assert_eq!(given(10, 1), BTreeSet::from([0, 13]));
     assert_eq!(given(11, 5), BTreeSet::from([0, 14]));
+    let old = [2, 3, 4, 5, 6, 7, 8, 9, 10, 12, 13, 0];
+    assert_eq!(given(12, 1), BTreeSet::from(old));
+    let new = text.into_iter().chain([17]);
+    assert_eq!(given(13, 1), new.collect());
 }
 
 #[test]
@@ -144,6 +148,32 @@ fn deeply_red_by_hand() {
     assert_eq!(answered(&format!("3 {twice} 1\n")), "3 10 1\n");
 }
 
+/// A text as the numbers of its bytes.
+fn numbers(text: &str) -> String {
+    let numbers: Vec<String> = text.bytes().map(|byte| byte.to_string()).collect();
+    numbers.join(" ")
+}
+
+/// 4/14: one row there and back, with a byte of the room to spare; a row with p 1; a
+/// room one byte short.
+#[test]
+fn texts_carried_by_hand() {
+    let of = |head: &str, text: &str| answered(&format!("{head} {}\n", numbers(text)));
+    let old = "rows=1\nid=7\nc=1\nt=2\nd=2\nm=1\nk=3\n";
+    let new = format!("{old}p=0\n");
+    let (shown_old, shown_new) = (numbers(old), numbers(&new));
+    assert_eq!(of("12 37", old), format!("12 0 36 {shown_new} 255\n"));
+    assert_eq!(of("13 33", &new), format!("13 0 32 {shown_old} 255\n"));
+    let red = new.replace("p=0", "p=1");
+    assert_eq!(of("13 2", &red), "13 17 0 255 255\n");
+    assert_eq!(of("13 0", &red.replace("k=3", "k=0")), "13 8 0\n");
+    assert_eq!(of("13 0", &new), "13 13 0\n");
+    assert!(of("13 31", &new).starts_with("13 13 0 255 "));
+    assert!(of("12 35", old).starts_with("12 13 0 255 "));
+    assert_eq!(of("12 1", &new), "12 12 32 255\n");
+    assert_eq!(of("13 1", old), "13 12 32 255\n");
+}
+
 #[test]
 fn what_is_no_case() {
     for (at, text) in [
@@ -159,7 +189,10 @@ fn what_is_no_case() {
         (1, "11 643 0 672 0\n"),
         (1, "11 673 0 672 0 0\n"),
         (1, "11 643 0 672 0 4294967296\n"),
-        (1, "12 643 0 672 0 0\n"),
+        (1, "12\n"),
+        (1, "12 4097\n"),
+        (1, "13 0 256\n"),
+        (1, "14 643 0 672 0 0\n"),
     ] {
         assert_eq!(answers(text), Err(at), "{text:?}");
     }

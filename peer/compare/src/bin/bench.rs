@@ -60,6 +60,7 @@ fn main() -> ExitCode {
     }
     alike &= fresh::fresh(&mut rng) && fresh::well(&mut rng);
     alike &= texts::read_longest() && texts::write_longest();
+    alike &= texts::carry_longest();
     for rows in [2, 8, 32] {
         alike &= states::single_ticks(&mut rng, rows);
     }

@@ -101,6 +101,24 @@ pub fn deleted(text: &[u8], at: usize, bytes: usize) -> Vec<u8> {
     [&text[..at], &text[end..]].concat()
 }
 
+/// A text's lines with one of them left out, said twice, put in from elsewhere, changed
+/// about with another or overwritten by it, or an empty one put in.
+pub fn one_moved<'a>(rng: &mut Rng, lines: &[&'a [u8]], at: usize) -> Vec<&'a [u8]> {
+    let other = rng.index(lines.len());
+    let mut moved = lines.to_vec();
+    match rng.below(6) {
+        0 => {
+            moved.remove(at);
+        }
+        1 => moved.insert(at, lines[at]),
+        2 => moved.insert(at, lines[other]),
+        3 => moved.swap(at, other),
+        4 => moved[at] = lines[other],
+        _ => moved.insert(at, b"\n"),
+    }
+    moved
+}
+
 /// A text with each byte changed to each of these, each put in at every place, and
 /// one to three bytes taken out at every place.
 pub fn every_change<'a>(text: &'a [u8], bytes: &'a [u8]) -> impl Iterator<Item = Vec<u8>> + 'a {

@@ -17,7 +17,7 @@ pub fn good_text(rng: &mut Rng) -> Vec<u8> {
 
 /// A table of one to three rows for texts: short enough to be looked at byte by
 /// byte, and sometimes with fields out of range.
-fn short_words(rng: &mut Rng) -> Vec<u32> {
+pub(super) fn short_words(rng: &mut Rng) -> Vec<u32> {
     let mut words = if rng.once_in(3) {
         faulty_table(rng)
     } else {

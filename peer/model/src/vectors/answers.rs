@@ -3,6 +3,7 @@
 use super::{line, BEFORE, BYTES_MAX, BYTE_BEFORE, BYTE_ROOM_MAX};
 use super::{COUNT_ROOM_MAX, ROOM_MAX, STATE_ROOM_MAX, WORDS_MAX};
 use crate::answer::Answer;
+use crate::convert::{convert, Way};
 use crate::counts::{counts_words, held_words};
 use crate::dispatch::{self, HEAD_WORDS, SAVED_ROW_WORDS, STATE_WORDS};
 use crate::pattern;
@@ -49,6 +50,12 @@ pub fn answer(case: &[u64]) -> Option<Vec<u64>> {
         [11, room, n, at, value, row, ref words @ ..] => {
             let state = begun(&mut out, [room, n, at, value], words)?;
             push(&mut out, held_words(&state, small(row)?));
+        }
+        [12, room, ref text @ ..] => {
+            carried(&mut out, byte_room(room)?, Way::ToNew, &bytes(text)?);
+        }
+        [13, room, ref text @ ..] => {
+            carried(&mut out, byte_room(room)?, Way::ToOld, &bytes(text)?);
         }
         _ => return None,
     }
@@ -122,6 +129,11 @@ fn written(out: &mut Vec<u64>, mut room: Vec<u8>, words: &[u32]) {
 
 fn printed(out: &mut Vec<u64>, mut room: Vec<u8>, input: &[u8]) {
     push(out, report_into(input, &mut room));
+    out.extend(room.into_iter().map(u64::from));
+}
+
+fn carried(out: &mut Vec<u64>, mut room: Vec<u8>, way: Way, text: &[u8]) {
+    push(out, convert(way, text, &mut room));
     out.extend(room.into_iter().map(u64::from));
 }
 

@@ -2,6 +2,7 @@
 //! refusal, and drawn tables and states, sound and damaged. They are the same
 //! whenever they are written.
 
+mod carried;
 mod counts;
 mod red;
 mod states;
@@ -13,6 +14,7 @@ use crate::gen::{faulty_table, job_question, table};
 use crate::pattern::K_MAX;
 use crate::rng::Rng;
 use crate::table::{ROW_WORDS, WORD_MAX};
+use carried::{to_new, to_old};
 use counts::{counts, held};
 use states::{runs, starts};
 use tables::{checks, verdicts};
@@ -52,6 +54,7 @@ const EDGES: [u32; 12] = [
 pub fn cases() -> String {
     let parts = [
         jobs, pairs, checks, verdicts, starts, runs, counts, readings, writings, reports, held,
+        to_new, to_old,
     ];
     let written = parts.iter().zip(1..).map(|(part, seed)| {
         let mut cases = Cases::new(seed);
@@ -103,7 +106,7 @@ impl Cases {
     }
 
     /// A text that is not long.
-    fn short(&mut self, draw: fn(&mut Rng) -> Vec<u8>) -> Vec<u8> {
+    fn short(&mut self, draw: impl Fn(&mut Rng) -> Vec<u8>) -> Vec<u8> {
         loop {
             let text = draw(&mut self.rng);
             if text.len() <= 130 {

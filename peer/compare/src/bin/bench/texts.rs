@@ -1,9 +1,10 @@
-//! The longest text, read and written.
+//! The longest text, read and written, and carried from one form to the other.
 
 use std::hint::black_box;
 
 use compare::ffi;
-use peer::gen::longest_table;
+use peer::convert::{convert_plain, Way};
+use peer::gen::{even, form_read, longest_table};
 use peer::table::{ROWS_MAX, ROW_WORDS};
 use peer::text::{read, text_of, write_plain, TEXT_MAX};
 
@@ -46,5 +47,32 @@ pub fn write_longest() -> bool {
         black_box((write_plain(black_box(&table), &mut peer_room), &peer_room));
     };
     line("write_longest", 1, &mut ours, &mut peer);
+    true
+}
+
+/// The longest text that can be carried, 32 rows with p 0, into a room of what comes of
+/// it, either way; the second program lays each line straight into the room as well.
+pub fn carry_longest() -> bool {
+    carried("to_new_longest", Way::ToNew) && carried("to_old_longest", Way::ToOld)
+}
+
+fn carried(name: &str, way: Way) -> bool {
+    let words = even(&longest_table());
+    let (text, due) = (form_read(way, &words), form_read(way.back(), &words));
+    let (mut room, mut peer_room) = (vec![0; due.len()], vec![0; due.len()]);
+    let ours = ffi::convert(way, &text, &mut room);
+    let peer = convert_plain(way, &text, &mut peer_room);
+    if ours != peer || !ours.is_accepted() || room != due || peer_room != due {
+        println!("bench {name} ours {ours:?} {room:?} peer {peer:?} {peer_room:?}");
+        return false;
+    }
+    let mut ours = || {
+        black_box((ffi::convert(way, black_box(&text), &mut room), &room));
+    };
+    let mut peer = || {
+        let answer = convert_plain(way, black_box(&text), &mut peer_room);
+        black_box((answer, &peer_room));
+    };
+    line(name, 1, &mut ours, &mut peer);
     true
 }

@@ -6,7 +6,7 @@ use peer::text::text_of;
 
 use super::same_text;
 use crate::course::{Compared, Course};
-use crate::draw::{any_values, every_change, short_text, sound, widest, TELLING};
+use crate::draw::{any_values, every_change, one_moved, short_text, sound, widest, TELLING};
 
 /// Texts of one row, each byte of which takes every value.
 const ONE_ROW: u32 = 6;
@@ -66,18 +66,7 @@ pub fn lines(course: &mut Course) -> Compared {
         let text = text_of(&sound(&mut course.rng, rows, 65_535));
         let lines: Vec<&[u8]> = text.split_inclusive(|&byte| byte == b'\n').collect();
         for at in 0..lines.len() {
-            let other = course.rng.index(lines.len());
-            let mut moved = lines.clone();
-            match course.rng.below(6) {
-                0 => {
-                    moved.remove(at);
-                }
-                1 => moved.insert(at, lines[at]),
-                2 => moved.insert(at, lines[other]),
-                3 => moved.swap(at, other),
-                4 => moved[at] = lines[other],
-                _ => moved.insert(at, b"\n"),
-            }
+            let moved = one_moved(&mut course.rng, &lines, at);
             same_text(course, &moved.concat())?;
         }
     }
