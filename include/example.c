@@ -1,6 +1,7 @@
 /*
  * A music stand in small: read the task text, ask for the verdict, run a second of ticks as a timer interrupt would, look at the
- * counts and at the pattern of a deeply-red row; save the state on the way and go on from the saved words; meet three refusals.
+ * counts and at the pattern of a deeply-red row; save the state on the way and go on from the saved words; carry an old text over and
+ * back; meet five refusals.
  *
  *     include/run
  */
@@ -25,6 +26,12 @@ static const char stand_text[] =
     "id=3\nc=14\nt=40\nd=40\nm=3\nk=5\np=0\n"
     "id=4\nc=20\nt=100\nd=100\nm=2\nk=4\np=1\n";
 
+/* A file from before a row had a line p: a desk with a pedal scan and a tuner alone. */
+static const char old_text[] =
+    "rows=2\n"
+    "id=1\nc=1\nt=5\nd=2\nm=1\nk=1\n"
+    "id=2\nc=6\nt=20\nd=20\nm=2\nk=3\n";
+
 enum { SCREEN = 2, RADIO = 3 };
 static const char *const names[] = {"pedal scan", "tuner", "screen", "radio slot"};
 
@@ -34,6 +41,7 @@ static uint32_t responses[GP_ROWS_MAX];
 static uint64_t state[GP_STATE_WORDS];
 static uint64_t saved[GP_STATE_WORDS];
 static uint8_t written[GP_TEXT_BYTES];
+static uint8_t old_written[GP_OLD_TEXT_BYTES];
 
 /* The jobs that the radio slot released, and of each in its bit whether it was mandatory. */
 static uint32_t radio_jobs;
@@ -149,6 +157,32 @@ static void show_screen(size_t rows, uint32_t p)
     printf("\n");
 }
 
+/* An old text is not guessed to be one: reading it meets a fault where the first line p would stand. Carried over it is read, and
+   carried back it is the same. Text and room of a call are never the same bytes. */
+static void carry_old(void)
+{
+    const uint8_t *text = (const uint8_t *)old_text;
+    size_t length = sizeof old_text - 1;
+    struct gp_answer answer = gp_read(text, length, table, GP_TABLE_WORDS);
+    printf("old text, read as it is: refused=%" PRIu64 " at=%" PRIu64 "\n", answer.refusal, answer.value);
+    size_t over = wanted("to_new", gp_to_new(text, length, written, GP_TEXT_BYTES));
+    size_t rows = wanted("read", gp_read(written, over, table, GP_TABLE_WORDS));
+    printf("carried over: bytes=%zu, then %zu, read: rows=%zu\n", length, over, rows);
+    size_t back = wanted("to_old", gp_to_old(written, over, old_written, GP_OLD_TEXT_BYTES));
+    int same = back == length && memcmp(old_written, text, length) == 0;
+    printf("carried back: bytes=%zu, %s\n", back, same ? "the same text" : "another text");
+}
+
+/* The old form has no word for a pattern, so a table with a deeply-red row is not written in it. */
+static void show_not_old(void)
+{
+    struct gp_answer answer = gp_to_old((const uint8_t *)stand_text, sizeof stand_text - 1, old_written, GP_OLD_TEXT_BYTES);
+    printf("the stand as an old text: refused=%" PRIu64 " at=%" PRIu64, answer.refusal, answer.value);
+    if (answer.refusal == GP_NOT_OLD)
+        printf(", the old form cannot say the %s", names[answer.value]);
+    printf("\n");
+}
+
 int main(void)
 {
     size_t rows = read_table();
@@ -160,5 +194,7 @@ int main(void)
     show_earlier();
     show_screen(rows, GP_DEEPLY_RED);
     show_screen(rows, 2);
+    carry_old();
+    show_not_old();
     return EXIT_SUCCESS;
 }

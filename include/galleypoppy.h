@@ -3,15 +3,16 @@
  *
  * The functions of `crates/stand_c`, built into `target/staticlib/libstand_c.a` by `rt staticlib stand_c` for x86-64 Linux (the
  * System V calling convention, a 64-bit size_t). Each of them is proved to give the answer that document 01 names (spare: document 02,
- * 1/14; the stored number of met marks: 2/14; the two patterns: 3/14), on every input, provided that the caller keeps to "What a
- * caller owes" below and the compiler's back end is right.
+ * 1/14; the stored number of met marks: 2/14; the two patterns: 3/14; old texts carried over and back: 4/14), on every input, provided
+ * that the caller keeps to "What a caller owes" below and the compiler's back end is right.
  *
  * What the functions do not do: allocate, keep anything between calls, read or write anything but the lent runs, stop or jump out.
  * They can be called at the same time on different runs. The archive has no writable data, and the only outside symbols it asks for
  * are memcpy and memset.
  *
  * Stack, measured at 32 rows: gp_job, gp_word, gp_tick and gp_run lay the pattern book there, 17,096 bytes in all; gp_report also
- * holds a table, a state and what it prints, 28,664 bytes; gp_write 1,664, gp_read 1,248, gp_verdict 624, the others under 150.
+ * holds a table, a state and what it prints, 28,648 bytes; gp_to_old 4,472, gp_to_new 3,544, gp_write 1,688, gp_read 1,288,
+ * gp_verdict 624; gp_check, gp_fresh, gp_well, gp_counts and gp_held under 150.
  *
  * Answers. Every function hands back two numbers. Where `refusal` is 0, the call was accepted and `value` is its answer. Otherwise
  * `refusal` is a number of documents 01 and 02 (enum gp_refusal), and `value` is the row or the place that goes with it, 0 where there
@@ -26,7 +27,7 @@
  *     of it initialised, and for a run that is not const also writable; the whole run at most PTRDIFF_MAX bytes
  *   - the length is the true one, or less
  *   - the runs of one call do not overlap where one of them is not const, even where the types are the same (the room of gp_counts
- *     is no part of its state)
+ *     is no part of its state; a text is not carried over or back in its own place)
  *   - no other thread and no interrupt writes a lent run during the call, nor reads one that is not const
  *   - what is linked is the archive that this header came with.
  */
@@ -55,8 +56,10 @@ extern "C" {
 /* Words that gp_counts fills. */
 #define GP_COUNT_WORDS 7
 
-/* Bytes of the longest task text that is accepted, and of a room that is always enough for gp_report. */
+/* Bytes of the longest task text that is accepted, of the longest old one (gp_to_new), and of a room that is always enough for
+   gp_report. */
 #define GP_TEXT_BYTES 1512
+#define GP_OLD_TEXT_BYTES 1384
 #define GP_REPORT_BYTES 5120
 
 /* The last time of the clock. */
@@ -80,7 +83,8 @@ enum gp_refusal {
     GP_ROOM = 13,           /* lent room too short for the answer; 0 */
     GP_STATE = 14,          /* state not well formed; 0 */
     GP_CLOCK = 15,          /* time + n past the clock's end; 0 */
-    GP_P_RANGE = 16         /* p above 1; row. It comes after 9 and before 10 */
+    GP_P_RANGE = 16,        /* p above 1; row. It comes after 9 and before 10 */
+    GP_NOT_OLD = 17         /* a row that the old form of a text cannot say: p is 1; first such row. It comes before 13 */
 };
 
 /* Every answer. The name of the type is the header's; its layout is the archive's. */
@@ -225,7 +229,7 @@ struct gp_answer gp_held(const uint64_t *state, size_t state_length, uint32_t ro
 /*
  * Reads a task text, of a row the lines id, c, t, d, m, k, p. Value: the number of rows; the room then holds the table, seven words a
  * row, from the start. GP_TABLE_WORDS words are room for every table. A text that was accepted before 3/14, with no line p, is refused
- * with 12.
+ * with 12; gp_to_new makes of it one that is read.
  * Refusals: 12 for the first line, 2 and 3 for its value, 12 for the remaining lines, then row by row 4 to 9 in number order, 16, 10;
  * then 13.
  */
@@ -237,6 +241,23 @@ struct gp_answer gp_read(const uint8_t *text, size_t text_length, uint32_t *room
  * Refusals: 1, 2, 3, then row by row 4 to 9 in number order, 16, 10; then 13.
  */
 struct gp_answer gp_write(const uint32_t *words, size_t words_length, uint8_t *room, size_t room_length);
+
+/*
+ * Carries an old task text over. It reads a text as it was before 3/14, of a row the lines id, c, t, d, m, k, and writes the text of the
+ * same rows, each with a last line p=0. Value: the length of the text written, which stands in the room from the start, with no 0
+ * behind it. GP_TEXT_BYTES bytes are room for every table. From the text written, gp_to_old makes the one that was read, byte for byte.
+ * Refusals: 12 for the first line, 2 and 3 for its value, 12 for the remaining lines, then row by row 4 to 10 in number order; then 13.
+ */
+struct gp_answer gp_to_new(const uint8_t *text, size_t text_length, uint8_t *room, size_t room_length);
+
+/*
+ * Carries a task text back to the old form. It reads a text as gp_read does and, if p is 0 in every row, writes the text of the same
+ * rows with no lines p. Value: the length of the text written, which stands in the room from the start, with no 0 behind it.
+ * GP_OLD_TEXT_BYTES bytes are room for every table. From the text written, gp_to_new makes the one that was read, byte for byte.
+ * Refusals: 12 for the first line, 2 and 3 for its value, 12 for the remaining lines, then row by row 4 to 9 in number order, 16, 10;
+ * then 17, with the first row whose p is 1; then 13.
+ */
+struct gp_answer gp_to_old(const uint8_t *text, size_t text_length, uint8_t *room, size_t room_length);
 
 /*
  * The printing program: from its input, a line `ticks=N` and a task text, to all that it prints. Value: the length of what is

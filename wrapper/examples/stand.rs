@@ -1,9 +1,11 @@
 //! A music stand in small: read the task text, ask for the verdict, run a second of ticks as a timer interrupt would, look at the
-//! counts and at the pattern of a deeply-red row; save the state on the way and go on from the saved words; meet three refusals. It
-//! prints what `include/example.c` prints.
+//! counts and at the pattern of a deeply-red row; save the state on the way and go on from the saved words; carry an old text over
+//! and back; meet five refusals. It prints what `include/example.c` prints.
 
-use galleypoppy::{job, read, verdict, write, Field, Kind, Pattern, Refusal, State};
-use galleypoppy::{ROWS_MAX, STATE_WORDS, TABLE_WORDS, TASK_WORDS, TEXT_BYTES};
+use galleypoppy::{
+    job, read, to_new, to_old, verdict, write, Field, Kind, Pattern, Refusal, State,
+};
+use galleypoppy::{OLD_TEXT_BYTES, ROWS_MAX, STATE_WORDS, TABLE_WORDS, TASK_WORDS, TEXT_BYTES};
 
 const SECOND: u32 = 1000;
 const SAVED_AT: u32 = 650;
@@ -18,6 +20,11 @@ const TEXT: &[u8] = b"rows=4\n\
     id=2\nc=6\nt=20\nd=20\nm=2\nk=3\np=0\n\
     id=3\nc=14\nt=40\nd=40\nm=3\nk=5\np=0\n\
     id=4\nc=20\nt=100\nd=100\nm=2\nk=4\np=1\n";
+
+/// A file from before a row had a line p: a desk with a pedal scan and a tuner alone.
+const OLD_TEXT: &[u8] = b"rows=2\n\
+    id=1\nc=1\nt=5\nd=2\nm=1\nk=1\n\
+    id=2\nc=6\nt=20\nd=20\nm=2\nk=3\n";
 
 const SCREEN: usize = 2;
 const RADIO: usize = 3;
@@ -165,6 +172,45 @@ fn show_screen(table: &mut [u32], p: u32) {
     }
 }
 
+/// An old text is not guessed to be one: reading it meets a fault where the first line p would stand. Carried over it is read, and
+/// carried back it is the same.
+fn carry_old() -> Result<(), Refusal> {
+    let mut words = [0; TABLE_WORDS];
+    print!("old text, read as it is: ");
+    match read(OLD_TEXT, &mut words) {
+        Err(Refusal::Text(place)) => println!("refused=12 at={place}"),
+        other => println!("{other:?}"),
+    }
+    let mut room = [0; TEXT_BYTES];
+    let over = to_new(OLD_TEXT, &mut room)?;
+    let rows = read(over, &mut words)?.len() / TASK_WORDS;
+    let (before, after) = (OLD_TEXT.len(), over.len());
+    println!("carried over: bytes={before}, then {after}, read: rows={rows}");
+    let mut old_room = [0; OLD_TEXT_BYTES];
+    let back = to_old(over, &mut old_room)?;
+    let same = if back == OLD_TEXT {
+        "the same text"
+    } else {
+        "another text"
+    };
+    println!("carried back: bytes={}, {same}", back.len());
+    Ok(())
+}
+
+/// The old form has no word for a pattern, so a table with a deeply-red row is not written in it.
+fn show_not_old() {
+    print!("the stand as an old text: ");
+    match to_old(TEXT, &mut [0; OLD_TEXT_BYTES]) {
+        Err(Refusal::NotOld(row)) => {
+            println!(
+                "refused=17 at={row}, the old form cannot say the {}",
+                NAMES[row as usize]
+            );
+        }
+        other => println!("{other:?}"),
+    }
+}
+
 fn main() -> Result<(), Refusal> {
     let mut room = [0; TABLE_WORDS];
     let table = read_table(&mut room)?;
@@ -177,5 +223,7 @@ fn main() -> Result<(), Refusal> {
     let words = table.len();
     show_screen(&mut room[..words], Pattern::DeeplyRed.p());
     show_screen(&mut room[..words], 2);
+    carry_old()?;
+    show_not_old();
     Ok(())
 }

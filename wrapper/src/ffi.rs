@@ -58,6 +58,8 @@ unsafe extern "C" {
         room: *mut u8,
         room_length: usize,
     ) -> Answer;
+    fn gp_to_new(text: *const u8, text_length: usize, room: *mut u8, room_length: usize) -> Answer;
+    fn gp_to_old(text: *const u8, text_length: usize, room: *mut u8, room_length: usize) -> Answer;
     fn gp_report(
         input: *const u8,
         input_length: usize,
@@ -131,6 +133,16 @@ pub fn read(text: &[u8], room: &mut [u32]) -> Result<u64, Refusal> {
 pub fn write(words: &[u32], room: &mut [u8]) -> Result<u64, Refusal> {
     // SAFETY: both are slices, borrowed for the call; the room, borrowed mutably, overlaps nothing.
     unsafe { gp_write(words.as_ptr(), words.len(), room.as_mut_ptr(), room.len()) }.taken()
+}
+
+pub fn to_new(text: &[u8], room: &mut [u8]) -> Result<u64, Refusal> {
+    // SAFETY: both are slices, borrowed for the call; the room, borrowed mutably, overlaps nothing.
+    unsafe { gp_to_new(text.as_ptr(), text.len(), room.as_mut_ptr(), room.len()) }.taken()
+}
+
+pub fn to_old(text: &[u8], room: &mut [u8]) -> Result<u64, Refusal> {
+    // SAFETY: both are slices, borrowed for the call; the room, borrowed mutably, overlaps nothing.
+    unsafe { gp_to_old(text.as_ptr(), text.len(), room.as_mut_ptr(), room.len()) }.taken()
 }
 
 pub fn report(input: &[u8], room: &mut [u8]) -> Result<u64, Refusal> {

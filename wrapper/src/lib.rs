@@ -1,9 +1,9 @@
 //! Galleypoppy for firmware in Rust: patterns, verdict, dispatcher and task text of the music stand's scheduler.
 //!
 //! The work is done by the functions of `crates/stand_c`, each proved to give the answer that document 01 names (spare: document
-//! 02, 1/14; the stored number of met marks: 2/14; the two patterns: 3/14) on every input. This package lends them slices, so that
-//! what a caller in C owes (true lengths, alignment, no overlap) is kept by the types. It does not allocate, it does not panic, and
-//! all its `unsafe` is in one module.
+//! 02, 1/14; the stored number of met marks: 2/14; the two patterns: 3/14; old texts carried over and back: 4/14) on every input.
+//! This package lends them slices, so that what a caller in C owes (true lengths, alignment, no overlap) is kept by the types. It
+//! does not allocate, it does not panic, and all its `unsafe` is in one module.
 //!
 //! A refused call alters nothing that was lent. An accepted one alters only the part of the room that its answer fills, from the
 //! start, and gives back that part.
@@ -42,7 +42,7 @@ pub use refusal::Refusal;
 pub use saved::{counts, fresh, held, run, tick, well, Counts, COUNT_WORDS, STATE_WORDS};
 pub use state::{Field, State};
 pub use table::{check, verdict, ROWS_MAX, TABLE_WORDS, TASK_WORDS};
-pub use text::{read, report, write, REPORT_BYTES, TEXT_BYTES};
+pub use text::{read, report, to_new, to_old, write, OLD_TEXT_BYTES, REPORT_BYTES, TEXT_BYTES};
 
 /// The first words of a room, which an answer has filled. The archive never fills more words than there are.
 fn filled<T>(room: &[T], length: usize) -> &[T] {

@@ -39,6 +39,8 @@ pub enum Refusal {
     Clock,
     /// 16: p of this row above 1. It comes after 9 and before 10.
     P(u64),
+    /// 17: this row is the first that the old form of a text cannot say: its p is 1. It comes before 13.
+    NotOld(u64),
     /// Any other number, with what came beside it: the linked archive is not the one that this package goes with.
     Other(u64, u64),
 }
@@ -63,6 +65,7 @@ impl Refusal {
             14 => Refusal::State,
             15 => Refusal::Clock,
             16 => Refusal::P(also),
+            17 => Refusal::NotOld(also),
             _ => Refusal::Other(number, also),
         }
     }
@@ -87,6 +90,7 @@ impl Refusal {
             Refusal::State => 14,
             Refusal::Clock => 15,
             Refusal::P(_) => 16,
+            Refusal::NotOld(_) => 17,
             Refusal::Other(number, _) => number,
         }
     }
@@ -102,6 +106,7 @@ impl Refusal {
             | Refusal::K(row)
             | Refusal::M(row)
             | Refusal::P(row)
+            | Refusal::NotOld(row)
             | Refusal::Repeated(row)
             | Refusal::Unschedulable(row) => Some(row),
             Refusal::Text(place) => Some(place),
@@ -130,6 +135,7 @@ impl fmt::Display for Refusal {
             Refusal::State => "state not well formed",
             Refusal::Clock => "time + n past the clock's end",
             Refusal::P(_) => "p above 1",
+            Refusal::NotOld(_) => "a row that the old form cannot say",
             Refusal::Other(..) => "unknown to this package",
         })?;
         write!(f, " (refused={}", self.number())?;

@@ -211,4 +211,8 @@ fn number_and_place() {
         "state not well formed (refused=14)"
     );
     assert_eq!(Refusal::P(7).to_string(), "p above 1 (refused=16 at=7)");
+    assert_eq!(
+        Refusal::NotOld(0).to_string(),
+        "a row that the old form cannot say (refused=17 at=0)"
+    );
 }
