@@ -4,10 +4,11 @@ use Prim.Native.Nat.{ℕ, _+_, _*_, _/_, _%_}
 use lib.Dec.{ltb, eqb}
 use lib.ListN.{length, getD}
 use Rattle.law.specs.Sums.{pick, first, build}
-use Rattle.law.specs.Refusal.{Answer, accepted, refused, orRefused, after, lent}
+use Rattle.law.specs.Refusal.{Answer, accepted, refused, orRefused, after, lent, head}
 use Rattle.law.specs.Table.{Task, width, tableOf, row, isRed, rowsChecked}
 use Rattle.law.specs.Text.{rowKeys, oldWidth, oldKeys}
 use Rattle.law.specs.Reading.{wordsRead, textAnswer, textOf, filled, putAnswer}
+use Rattle.law.specs.Report.{refusalPrinted}
 
 -- the words of rows with `from` words each, laid as rows with `to` words each: a word that a row has not is 0, a word too many is left out
 unfoldable pub relaid : ℕ → ℕ → List ℕ → List ℕ
@@ -58,3 +59,13 @@ toNewRoom text room = lent (toNewAnswer text (length room)) (filled (newText tex
 
 unfoldable pub toOldRoom : List ℕ → List ℕ → List ℕ
 toOldRoom text room = lent (toOldAnswer text (length room)) (filled (oldText text) room) room
+
+-- The two programs: how many bytes of the text that was written go to standard output, which carries "the converted text and nothing else"
+abbrev pub outOf : Answer → ℕ
+outOf (accepted values) = head values
+outOf (refused n also) = 0
+
+-- what goes to standard error: a refusal "in the house form", and nothing else
+abbrev pub errorOf : Answer → List ℕ
+errorOf (accepted values) = []
+errorOf (refused n also) = refusalPrinted n also

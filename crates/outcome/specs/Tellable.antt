@@ -3,10 +3,17 @@ use mathlib.Core.List.{List}
 use Prim.Native.Nat.{ℕ, _≤_}
 use lib.ListN.{length}
 use Rattle.law.specs.Refusal.{head}
+use Rattle.law.specs.Carry.{outOf}
 use Rattle.refusal.specs.Shown.{alsoOf}
+use Rattle.text.specs.Written.{shown}
 use Rattle.text.specs.declared.write.Written.{Written}
 use Rattle.text.specs.declared.write.Written.the-variants.{Length, Refused}
 
-abbrev pub Tellable : Written → List ℕ → Type 0
-Tellable (Length n) text = n ≤ length text
-Tellable (Refused r) text = head (alsoOf r) ≤ 4294967295
+-- a row or place of 32 bits, where there is one
+abbrev pub Small : Written → Type 0
+Small (Length n) = 0 ≤ 0
+Small (Refused r) = head (alsoOf r) ≤ 4294967295
+
+pub record Tellable (answer : Written) (text : List ℕ) : Type 0 where
+  pub small : Small answer
+  pub fits : outOf (shown answer) ≤ length text

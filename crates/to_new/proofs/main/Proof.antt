@@ -18,8 +18,10 @@ use Rattle.to_new.proofs.main.Statement.{statement}
 use Rattle.to_new.proofs.main.Tie as tie
 
 tellable : (text out : List ℕ) → length out ≡ 1512 → (a : Written) → shown a ≡ toNewAnswer text 1512 → Tellable a out
-tellable text out long (Length m) e = let s = new-says text 1512 (m ∷ []) (sym e) in omega (arith, s .fits, ap head (s .wrote))
-tellable text out long (Refused r) e = omega (arith, new-also text 1512, ap alsoIn e)
+tellable text out long (Length m) e =
+    let s = new-says text 1512 (m ∷ []) (sym e) in
+    record { small = omega arith; fits = omega (arith, s .fits, ap head (s .wrote)) }
+tellable text out long (Refused r) e = record { small = omega (arith, new-also text 1512, ap alsoIn e); fits = omega arith }
 
 slice-aggregate-read-full : tie.Need-slice-aggregate-read-full
 slice-aggregate-read-full c = search needs

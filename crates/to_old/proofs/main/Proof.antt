@@ -18,8 +18,10 @@ use Rattle.to_old.proofs.main.Statement.{statement}
 use Rattle.to_old.proofs.main.Tie as tie
 
 tellable : (text out : List ℕ) → length out ≡ 1384 → (a : Written) → shown a ≡ toOldAnswer text 1384 → Tellable a out
-tellable text out long (Length m) e = let s = old-says text 1384 (m ∷ []) (sym e) in omega (arith, s .fits, ap head (s .wrote))
-tellable text out long (Refused r) e = omega (arith, old-also text 1384, ap alsoIn e)
+tellable text out long (Length m) e =
+    let s = old-says text 1384 (m ∷ []) (sym e) in
+    record { small = omega arith; fits = omega (arith, s .fits, ap head (s .wrote)) }
+tellable text out long (Refused r) e = record { small = omega (arith, old-also text 1384, ap alsoIn e); fits = omega arith }
 
 slice-aggregate-read-full : tie.Need-slice-aggregate-read-full
 slice-aggregate-read-full c = search needs
