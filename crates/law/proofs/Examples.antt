@@ -9,7 +9,8 @@ use Rattle.law.specs.Verdict.{demand, load, fitsAt, response}
 use Rattle.law.specs.Tick.{Row, fresh, release, nextPlace, choose, outcome, advance, shifted, marks, spare, settled, releaseAll, advanceAll, finish, begin, tick, run}
 use Rattle.law.specs.Promise.{stateAfter, during, settling, took}
 
-p5 : List Task
+-- document 01's table
+unfoldable pub p5 : List Task
 p5 = record { id = 11; c = 2; t = 4; d = 4; m = 1; k = 2; p = 0 } ∷ record { id = 12; c = 4; t = 6; d = 6; m = 2; k = 3; p = 0 } ∷ []
 
 counts : Row → List ℕ

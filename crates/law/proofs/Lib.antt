@@ -15,6 +15,12 @@ pub mod Spare
 pub mod Laid
 pub mod Sound
 pub mod Ticks
+pub mod Released
+pub mod RunAnswers
+pub mod Replay
+pub mod ReplayLogs
+pub mod ReplayAnswers
+pub mod ReplayExact
 pub mod Units
 pub mod Fresh
 pub mod Examples
@@ -39,3 +45,4 @@ pub mod CarryExamples
 pub mod Report
 pub mod TextExamples
 pub mod ReportExamples
+pub mod ReplayExamples

@@ -136,10 +136,10 @@ next-in r place h =
       | fails e ↦ rw e (omega (arith, eqb-false (place + 1) (r .k) e))
     ]
 
-module _ (time work : ℕ) (r : Row) (s : SoundRow 0 time r) (low : 1 ≤ work) (high : work ≤ r .core .task .c) where
-  released-due : r .core .wait ≡ 0 → SoundRow 1 time (releaseRow work r)
+module _ (time work : ℕ) (r : Row) (s : SoundRow 0 time r) where
+  released-due : r .core .wait ≡ 0 → 1 ≤ work → work ≤ r .core .task .c → SoundRow 1 time (releaseRow work r)
   unfolding release
-  released-due e =
+  released-due e low high =
       let c = r .core in
       let y = s .tally in
       let rest = due-resting c (s .core) e in
@@ -196,8 +196,9 @@ module _ (time work : ℕ) (r : Row) (s : SoundRow 0 time r) (low : 1 ≤ work) 
             };
       })
 
-  pub release-sound : SoundRow 1 time (releaseRow work r)
-  release-sound = elim (ℕ-discrete (r .core .wait) 0) [ yes e ↦ released-due e | no h ↦ released-later h ]
+  -- the work matters only where a job is released
+  pub release-sound : (r .core .wait ≡ 0 → 1 ≤ work) → (r .core .wait ≡ 0 → work ≤ r .core .task .c) → SoundRow 1 time (releaseRow work r)
+  release-sound low high = elim (ℕ-discrete (r .core .wait) 0) [ yes e ↦ released-due e (low e) (high e) | no h ↦ released-later h ]
 
 -- ---- work and settling take phase 1 to phase 0, one tick later
 

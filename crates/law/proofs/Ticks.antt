@@ -11,9 +11,9 @@ use borrow.Author.Tests.{leb-true, eqb-true, le-leb, eq-eqb}
 use Rattle.law.specs.Sums.{every, mapFrom}
 use Rattle.law.specs.Refusal.{within}
 use Rattle.law.specs.Table.{Task, row, WellFormed}
-use Rattle.law.specs.Tick.{Row, State, noRow, fullLength, release, releaseRow, releaseAll, advance, advanceRow, advanceAll, choose, begin, finish, tick, run, clockEnd}
+use Rattle.law.specs.Tick.{Row, State, noRow, fullLength, release, releaseRow, releaseAll, advance, advanceRow, advanceAll, choose, begin, finish, tickWith, tick, run, clockEnd}
 use Rattle.law.specs.State.{tasksOf, tableWell, rowWell, stateWell}
-use Rattle.law.specs.Sound.{SoundRow, SoundState}
+use Rattle.law.specs.Sound.{SoundRow, SoundState, Lengths}
 use Rattle.law.proofs.Tests.{both-left, both-right, both-true, bit-most}
 use Rattle.law.proofs.Question.{within-low, within-high, within-is}
 use Rattle.law.proofs.Sums.{mapFrom-length, mapFrom-at}
@@ -107,21 +107,20 @@ finished-at chosen rows i h =
     mapFrom-at (λ i. advanceRow (eqb i chosen)) 0 rows i noRow h
     ∙ ap (λ (z : ℕ). advanceRow (eqb z chosen) (getD rows i noRow)) (zero-add i)
 
-pub begin-sound : (s : State) → SoundState 0 s → s .time < clockEnd → SoundState 1 (begin (fullLength (s .rows)) s)
+pub begin-sound : (work : ℕ → ℕ) (s : State) → SoundState 0 s → s .time < clockEnd → Lengths work (s .rows) → SoundState 1 (begin work s)
 unfolding begin
-begin-sound s f h =
+begin-sound work s f h g =
     record {
-      table = subst WellFormed (sym (begin-tasks (fullLength (s .rows)) (s .rows))) (f .table);
+      table = subst WellFormed (sym (begin-tasks work (s .rows))) (f .table);
       time = omega arith;
       idle = f .idle;
-      rows = λ i q. one i (omega (arith, begun-length (fullLength (s .rows)) (s .rows)));
+      rows = λ i q. one i (omega (arith, begun-length work (s .rows)));
     }
   where
-    one : (i : ℕ) → i < length (s .rows) → SoundRow 1 (s .time) (getD (releaseAll (fullLength (s .rows)) (s .rows)) i noRow)
+    one : (i : ℕ) → i < length (s .rows) → SoundRow 1 (s .time) (getD (releaseAll work (s .rows)) i noRow)
     one i q =
-        let r = f .rows i q in
-        rw (begun-at (fullLength (s .rows)) (s .rows) i q)
-        (release-sound (s .time) (fullLength (s .rows) i) (getD (s .rows) i noRow) r (r .core .ranged .c-low) (omega arith))
+        rw (begun-at work (s .rows) i q)
+        (release-sound (s .time) (work i) (getD (s .rows) i noRow) (f .rows i q) (g .low i q) (g .high i q))
 
 pub finish-sound : (s : State) → SoundState 1 s → SoundState 0 (finish s)
 unfolding finish
@@ -138,22 +137,43 @@ finish-sound s f =
         rw (finished-at (choose (s .rows)) (s .rows) i q)
         (advance-sound (s .time) (eqb i (choose (s .rows))) (getD (s .rows) i noRow) (f .rows i q))
 
+-- jobs of full length
+pub full-lengths : (s : State) → SoundState 0 s → Lengths (fullLength (s .rows)) (s .rows)
+full-lengths s f = record { low = λ i h e. f .rows i h .core .ranged .c-low; high = λ i h e. omega arith }
+
+-- a tick, whatever the work of the jobs that it releases
+module _ (work : ℕ → ℕ) (s : State) where
+  pub tick-with-sound : SoundState 0 s → s .time < clockEnd → Lengths work (s .rows) → SoundState 0 (tickWith work s)
+  tick-with-sound f h g = finish-sound (begin work s) (begin-sound work s f h g)
+
+  pub tick-with-time : tickWith work s .time ≡ s .time + 1
+  unfolding finish begin
+  tick-with-time = refl
+
+  pub tick-with-length : length (tickWith work s .rows) ≡ length (s .rows)
+  unfolding finish begin
+  tick-with-length = finished-length _ (releaseAll work (s .rows)) ∙ begun-length work (s .rows)
+
+  pub tick-with-tasks : tasksOf (tickWith work s .rows) ≡ tasksOf (s .rows)
+  unfolding finish begin
+  tick-with-tasks = finish-tasks _ (releaseAll work (s .rows)) ∙ begin-tasks work (s .rows)
+
+-- .. C among them
 pub tick-sound : (s : State) → SoundState 0 s → s .time < clockEnd → SoundState 0 (tick s)
 unfolding tick
-tick-sound s f h = finish-sound (begin (fullLength (s .rows)) s) (begin-sound s f h)
+tick-sound s f h = tick-with-sound (fullLength (s .rows)) s f h (full-lengths s f)
 
 pub tick-time : (s : State) → tick s .time ≡ s .time + 1
-unfolding tick finish begin
-tick-time s = refl
+unfolding tick
+tick-time s = tick-with-time (fullLength (s .rows)) s
 
 pub tick-length : (s : State) → length (tick s .rows) ≡ length (s .rows)
-unfolding tick finish begin
-tick-length s =
-    finished-length _ (releaseAll (fullLength (s .rows)) (s .rows)) ∙ begun-length (fullLength (s .rows)) (s .rows)
+unfolding tick
+tick-length s = tick-with-length (fullLength (s .rows)) s
 
 pub tick-tasks : (s : State) → tasksOf (tick s .rows) ≡ tasksOf (s .rows)
-unfolding tick finish begin
-tick-tasks s = finish-tasks _ (releaseAll (fullLength (s .rows)) (s .rows)) ∙ begin-tasks (fullLength (s .rows)) (s .rows)
+unfolding tick
+tick-tasks s = tick-with-tasks (fullLength (s .rows)) s
 
 -- ---- a run
 

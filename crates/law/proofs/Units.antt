@@ -1,5 +1,5 @@
--- "over any run the units of work taken from jobs plus the ticks added to idle equal the ticks run": each tick either takes one unit from the
--- row chosen, which is live, or is idle.
+-- "over any run the units of work taken from jobs plus the ticks added to idle equal the ticks run", and over any replay: each tick either takes one
+-- unit from the row chosen, which is live, or is idle.
 use mathlib.Core.Bool.{Bool, true, false}
 use mathlib.Core.List.{List}
 use mathlib.Core.Path.{_≡_, refl, ap, _∙_}
@@ -11,7 +11,8 @@ use lib.Dec.{eqb, ltb}
 use lib.ListN.{length}
 use borrow.Author.Tests.{lt-ltb, le-ltb, ltb-true, ltb-false, eq-eqb, ne-eqb}
 use Rattle.law.specs.Sums.{bit, both, pick, first}
-use Rattle.law.specs.Tick.{Core, Row, State, coreAt, live, urgent, workAfter, choose, fullLength, begin, finish, tick, run, unitsIn, units}
+use Rattle.law.specs.Tick.{Core, Row, State, coreAt, live, urgent, workAfter, choose, fullLength, begin, finish, tickWith, tick, run, unitsWith, units}
+use Rattle.law.specs.Replay.{logged, goesOn, replayed, replayUnits}
 use Rattle.law.proofs.Tests.{known, passes, fails, both-left, both-true}
 use Rattle.law.proofs.First.{first-high, first-found}
 use Rattle.law.proofs.Sums.{sum-only, sum-cong}
@@ -50,13 +51,13 @@ lost true c =
 lost false c = omega arith
 
 -- one tick: one unit, or idle
-tick-units : (s : State) → unitsIn s + tick s .idle ≡ s .idle + 1
-unfolding unitsIn tick finish begin
-tick-units s =
-    let rows = begin (fullLength (s .rows)) s .rows in
+tick-units : (work : ℕ → ℕ) (s : State) → unitsWith work s + tickWith work s .idle ≡ s .idle + 1
+unfolding unitsWith finish begin
+tick-units work s =
+    let rows = begin work s .rows in
     let c = choose rows in
-    let same : length rows ≡ length (s .rows) = begun-length (fullLength (s .rows)) (s .rows) in
-    let total : unitsIn s ≡ bit (both (ltb c (length (s .rows))) (live (coreAt rows c))) =
+    let same : length rows ≡ length (s .rows) = begun-length work (s .rows) in
+    let total : unitsWith work s ≡ bit (both (ltb c (length (s .rows))) (live (coreAt rows c))) =
     sum-cong _ _ (length (s .rows)) (λ i h. lost (eqb i c) (coreAt rows i)) ∙ sum-only c (λ j. live (coreAt rows j)) (length (s .rows)) in
     elim (decLt c (length rows)) [
       | yes h ↦ omega (arith, total, ap bit (both-is rows h same), ap bit (ne-eqb c (length rows) (ne-of-lt h)))
@@ -71,6 +72,17 @@ tick-units s =
     none-is c rows e f = rw (le-ltb c (length (s .rows)) (omega arith))
 
 pub run-units : (n : ℕ) (s : State) → units n s + run n s .idle ≡ s .idle + n
-unfolding units run
+unfolding units run tick
 run-units zero s = omega arith
-run-units (suc n) s = omega (arith, run-units n s, tick-units (run n s))
+run-units (suc n) s = omega (arith, run-units n s, tick-units (fullLength (run n s .rows)) (run n s))
+
+-- the same of a replay, as far as it goes
+pub replay-units : (log : List ℕ) (n : ℕ) (s : State) → replayUnits log n s + replayed log n s .state .idle ≡ s .idle + replayed log n s .ticks
+unfolding replayUnits replayed
+replay-units log zero s = omega arith
+replay-units log (suc n) s =
+    let x = replayed log n s in
+    elim (known (goesOn log x)) [
+      | passes e ↦ rw e (omega (arith, replay-units log n s, tick-units (logged log x) (x .state)))
+      | fails e ↦ rw e (omega (arith, replay-units log n s))
+    ]

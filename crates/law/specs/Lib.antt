@@ -6,6 +6,7 @@ pub mod Verdict
 pub mod Easing
 pub mod Tick
 pub mod State
+pub mod Replay
 pub mod Sound
 pub mod Promise
 pub mod Text

@@ -18,9 +18,12 @@ stateAfter tasks t = run t (fresh tasks)
 unfoldable pub during : State → List Row
 during s = releaseAll (fullLength (s .rows)) (s .rows)
 
--- what becomes of row i's live job at the end of the tick that begins in a state: the settling at time + 1
+-- what becomes of row i's live job at the end of a tick, by the rows once it has released: the settling at time + 1
+abbrev pub settlingIn : List Row → ℕ → Outcome
+settlingIn rows i = outcome (eqb i (choose rows)) (coreAt rows i)
+
 unfoldable pub settling : State → ℕ → Outcome
-settling s i = outcome (eqb i (choose (during s))) (coreAt (during s) i)
+settling s i = settlingIn (during s) i
 
 abbrev pub isMet : Outcome → Bool
 isMet nothing = false
@@ -31,10 +34,14 @@ isMet missed = false
 abbrev pub releaseTick : List Task → ℕ → ℕ → ℕ
 releaseTick tasks i a = a * row tasks i .t
 
--- the ticks that job a of row i, with task r, took in a course of states: the first n from 1 to D for which row i's settling at its release + n
--- is met; D + 1 where there is none
+-- the ticks that job a of a row with task r took, by the row's settlings tick by tick: the first n from 1 to D for which the settling at its release
+-- + n is met; D + 1 where there is none
+abbrev pub tookBy : (ℕ → Outcome) → Task → ℕ → ℕ
+tookBy settlings r a = firstFrom (λ n. isMet (settlings (a * r .t + n - 1))) 1 (r .d)
+
+-- those of job a of row i in a course of states
 abbrev pub tookIn : (ℕ → State) → Task → ℕ → ℕ → ℕ
-tookIn states r i a = firstFrom (λ n. isMet (settling (states (a * r .t + n - 1)) i)) 1 (r .d)
+tookIn states r i a = tookBy (λ t. settling (states t) i) r a
 
 -- the same in the run from fresh
 unfoldable pub took : List Task → ℕ → ℕ → ℕ

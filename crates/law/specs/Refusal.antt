@@ -43,3 +43,12 @@ codeOf (refused n vs) = n
 abbrev pub valueOf : Answer → ℕ
 valueOf (accepted vs) = head vs
 valueOf (refused n vs) = head vs
+
+-- and a second value, for an answer that has two; no refusal has
+abbrev pub second : List ℕ → ℕ
+second [] = 0
+second (v ∷ vs) = head vs
+
+abbrev pub secondOf : Answer → ℕ
+secondOf (accepted vs) = second vs
+secondOf (refused n vs) = 0

@@ -1,12 +1,13 @@
 -- What holds of every row of a well-formed state, as facts: between ticks (phase 0), and after the releases of a tick (phase 1), when wait is
 -- one higher and a row may have released one job more than ticks have passed. The tests of chapter State are these facts at phase 0.
+use mathlib.Core.List.{List}
 use mathlib.Core.Logic.{_⊎_}
 use mathlib.Core.Path.{_≡_}
 use Prim.Native.Nat.{ℕ, _+_, _^_, _≤_, _<_}
 use lib.ListN.{length, getD}
 use Rattle.law.specs.Sums.{bit}
 use Rattle.law.specs.Table.{Ranged, WellFormed}
-use Rattle.law.specs.Tick.{Core, Tally, Row, State, noRow, live, marks, clockEnd}
+use Rattle.law.specs.Tick.{Core, Tally, Row, State, noRow, coreAt, live, marks, clockEnd}
 use Rattle.law.specs.State.{settledCounts, tasksOf}
 
 -- "a row without one has deadline and kind 0"
@@ -46,3 +47,8 @@ pub record SoundState (phase : ℕ) (s : State) : Type 0 where
   pub time : s .time + phase ≤ clockEnd
   pub idle : s .idle ≤ s .time
   pub rows : (i : ℕ) → i < length (s .rows) → SoundRow phase (s .time) (getD (s .rows) i noRow)
+
+-- work for the jobs that rows release in a tick, each 1 to C
+pub record Lengths (work : ℕ → ℕ) (rows : List Row) : Type 0 where
+  pub low : (i : ℕ) → i < length rows → coreAt rows i .wait ≡ 0 → 1 ≤ work i
+  pub high : (i : ℕ) → i < length rows → coreAt rows i .wait ≡ 0 → work i ≤ coreAt rows i .task .c

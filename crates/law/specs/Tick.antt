@@ -71,7 +71,7 @@ unfoldable pub nextPlace : Task → ℕ → ℕ
 nextPlace r place = pick (eqb (place + 1) (r .k)) 0 (place + 1)
 
 -- "with C work, D ticks to its deadline, and its kind from the pattern at its place. Its wait becomes T and its place goes up by one".
--- The work is an argument: here it is always C.
+-- The work is an argument: C in a tick, a number of the log in a replay (chapter Replay).
 unfoldable pub release : ℕ → Core → Core
 release work c =
     record {
@@ -220,24 +220,27 @@ finish s =
 unfoldable pub begin : (ℕ → ℕ) → State → State
 begin work s = record { time = s .time; idle = s .idle; rows = releaseAll work (s .rows) }
 
--- "Order within tick t": 1 to 4
+-- "Order within tick t": 1 to 4, with the work of the job that each row would release as an argument
+abbrev pub tickWith : (ℕ → ℕ) → State → State
+tickWith work s = finish (begin work s)
+
+-- .. which is C
 unfoldable pub tick : State → State
-tick s = finish (begin (fullLength (s .rows)) s)
+tick s = tickWith (fullLength (s .rows)) s
 
 -- "A run of n ticks is n such ticks"
 unfoldable pub run : ℕ → State → State
 run zero s = s
 run (suc n) s = tick (run n s)
 
--- the units of work taken from jobs in the tick that begins in a state, and in a run
-unfoldable pub unitsIn : State → ℕ
-unitsIn s =
-    sum (λ i. coreAt (begin (fullLength (s .rows)) s .rows) i .work
-    - workAfter (eqb i (choose (begin (fullLength (s .rows)) s .rows))) (coreAt (begin (fullLength (s .rows)) s .rows) i)) (length (s .rows))
+-- the units of work taken from jobs in the tick that begins in a state and releases jobs with the work given; and in a run
+unfoldable pub unitsWith : (ℕ → ℕ) → State → ℕ
+unitsWith work s =
+    sum (λ i. coreAt (begin work s .rows) i .work - workAfter (eqb i (choose (begin work s .rows))) (coreAt (begin work s .rows) i)) (length (s .rows))
 
 unfoldable pub units : ℕ → State → ℕ
 units zero s = 0
-units (suc n) s = units n s + unitsIn (run n s)
+units (suc n) s = units n s + unitsWith (fullLength (run n s .rows)) (run n s)
 
 -- "The clock ends at 4,294,967,295"
 abbrev pub clockEnd : ℕ

@@ -105,6 +105,10 @@ due-at {r} a h o = omega (arith, ap (λ (z : ℕ). z * r .t) (ceil-multiple a (r
 pub wait-at : {r : Task} {c : Core} (a n : ℕ) → n < r .t → OnClock r (suc (a * r .t + n)) c → c .wait + suc n ≡ r .t
 wait-at {r} a n l o = omega (arith, ap (λ (z : ℕ). z * r .t) (ceil-at a (r .t) n l), suc-mul a (r .t))
 
+-- an earlier job's deadline comes earlier
+pub deadline-sooner : (r : Task) (a b t : ℕ) → a ≤ b → b * r .t + r .d ≤ t → a * r .t + r .d ≤ t
+deadline-sooner r a b t l h = omega (arith, mul-le-mul-right (r .t) l)
+
 -- what a row asks for
 module _ (r : Task) (h : Ranged r) where
   pub demand-none : demand r 0 ≡ 0

@@ -48,9 +48,12 @@ module _ (tasks : List Task) where
   pub full-is : (t i : ℕ) → fullWork tasks t i ≡ row tasks i .c
   full-is t i = ap (λ r. r .core .task .c) (fresh-at i)
 
-  blank : (i : ℕ) → freshTallies tasks 0 i ≡ freshTally (row tasks i)
+  pub blank-tally : (work : ℕ → ℕ → ℕ) (i : ℕ) → tallyOf work (map freshRow tasks) 0 i ≡ freshTally (row tasks i)
   unfolding runWith
-  blank i = ap (λ r. r .tally) (fresh-at i)
+  blank-tally work i = ap (λ r. r .tally) (fresh-at i)
+
+  blank : (i : ℕ) → freshTallies tasks 0 i ≡ freshTally (row tasks i)
+  blank = blank-tally (fullWork tasks)
 
   pub after-is : (t : ℕ) → stateAfter tasks t .rows ≡ runWith (fullWork tasks) t (map freshRow tasks)
   unfolding stateAfter fresh

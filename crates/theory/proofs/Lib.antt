@@ -9,3 +9,4 @@ pub mod Bound
 pub mod Marks
 pub mod Tallies
 pub mod Demand
+pub mod Replay

@@ -106,7 +106,7 @@ pub data Stage (x : Course) (i a n : ℕ) : Type 0 where
   misses : suc n ≡ taskIn x i .d → taskIn x i .d < tookIn x i a → RunsIn x i a n → endIn x i a n ≡ missed → Stage x i a n
   over : lifeIn x i a ≤ n → Rests (coreIn x i a n) → endIn x i a n ≡ nothing → Stage x i a n
 
-is-met : (o : Outcome) → isMet o ≡ true → o ≡ met
+pub is-met : (o : Outcome) → isMet o ≡ true → o ≡ met
 is-met nothing e = absurd (never-both false e refl)
 is-met met e = refl
 is-met missed e = absurd (never-both false e refl)

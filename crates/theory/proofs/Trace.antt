@@ -46,8 +46,8 @@ pub record Clean (tasks : List Task) (rows : List Row) : Type 0 where
   pub as-many : length rows ≡ length tasks
   pub fresh-core : (i : ℕ) → i < length tasks → coreAt rows i ≡ freshCore (row tasks i)
 
--- lengths from 1 to C
-pub record Lengths (tasks : List Task) (work : ℕ → ℕ → ℕ) : Type 0 where
+-- lengths from 1 to C, in every tick
+pub record AllLengths (tasks : List Task) (work : ℕ → ℕ → ℕ) : Type 0 where
   pub low : (t i : ℕ) → i < length tasks → 1 ≤ work t i
   pub high : (t i : ℕ) → i < length tasks → work t i ≤ row tasks i .c
 
@@ -84,7 +84,7 @@ module _ (tasks : List Task) (work : ℕ → ℕ → ℕ) (rows : List Row) (cle
         sym (ap urgent (released-core t (choose (duringWith work t rows)) (omega (arith, high))))
         ∙ choice-urgent (duringWith work t rows) i (still-released t i h) (ap urgent (released-core t i h) ∙ e)
 
-  pub trace-of : ((i : ℕ) → i < length tasks → Ranged (row tasks i)) → Lengths tasks work → Trace (courseOf tasks work rows)
+  pub trace-of : ((i : ℕ) → i < length tasks → Ranged (row tasks i)) → AllLengths tasks work → Trace (courseOf tasks work rows)
   unfolding runWith
   trace-of ranged lengths =
       record {
