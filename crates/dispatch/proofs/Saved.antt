@@ -106,6 +106,10 @@ module _ (words : List ℕ) (n : ℕ) where
     unfolding runAnswer runWords
     run-done h = let e = le-leb (getD words 1 0 + n) clockEnd h in (rw (good, e), rw (good, e))
 
+  pub run-refused : (k : ℕ) (also : List ℕ) → runAnswer words n ≡ refused k also → runWords words n ≡ words
+  unfolding runWords
+  run-refused k also e = rw e
+
 -- the counts of a row by their cases
 module _ (words : List ℕ) (i : ℕ) (room : List ℕ) where
   pub counts-ill : savedWell words ≡ false → (countsAnswer words (length room) ≡ refused 14 []) × (countsRoom words i room ≡ room)

@@ -20,10 +20,9 @@ pub struct After {
     pub state: State,
 }
 
-// n ticks of a state that is lent as words. A refused run leaves every word as it was.
-pub fn run_words(words: &mut [u64], n: u32) -> Ran
-    ensures answer { λ r. ⌜ ranShown r ≡ runAnswer (now (words .entry)) n ⌝ }
-    ensures words { λ r. ⌜ now (words .exit) ≡ runWordsLaw (now (words .entry)) n ⌝ }
+// Whether n ticks of a state can be made, or why not. It is looked at once, before the first of them.
+pub fn may_run(words: &[u64], n: u32) -> Ran
+    ensures { λ r. ⌜ ranShown r ≡ runAnswer (now (words .entry)) n ⌝ }
 {
     if !is_well(words) {
         return Ran::Refused(Refusal::State);
@@ -32,8 +31,20 @@ pub fn run_words(words: &mut [u64], n: u32) -> Ran
     if 4294967295 < words[1] + asked {
         return Ran::Refused(Refusal::Clock);
     }
+    Ran::Done
+}
+
+// n ticks of a state that is lent as words. A refused run leaves every word as it was.
+pub fn run_words(words: &mut [u64], n: u32) -> Ran
+    ensures answer { λ r. ⌜ ranShown r ≡ runAnswer (now (words .entry)) n ⌝ }
+    ensures words { λ r. ⌜ now (words .exit) ≡ runWordsLaw (now (words .entry)) n ⌝ }
+{
+    match may_run(words, n) {
+        Ran::Done => {}
+        Ran::Refused(refusal) => return Ran::Refused(refusal),
+    }
     let patterns = fetch(words);
-    ticks(words, &patterns, asked);
+    ticks(words, &patterns, n as u64);
     Ran::Done
 }
 

@@ -10,7 +10,7 @@ use Rattle.law.specs.Report.{numberLines}
 use Rattle.law.proofs.TextDecimal.{decimal-ten}
 use Rattle.law.proofs.TextWrite.{lines-append}
 use Rattle.refusal.specs.declared.Refusal.{Refusal}
-use Rattle.refusal.specs.declared.Refusal.the-variants.{NotWholeRows, NoRows, ManyRows, Id, T, D, C, K, M, Repeated, Unschedulable, Text, Room, State, Clock, P, NotOld}
+use Rattle.refusal.specs.declared.Refusal.the-variants.{NotWholeRows, NoRows, ManyRows, Id, T, D, C, K, M, Repeated, Unschedulable, Text, Room, State, Clock, P, NotOld, Log}
 use Rattle.refusal.specs.Shown.{numberOf}
 use Rattle.line.specs.Put.{putAt, lineOf}
 use Rattle.line.proofs.Pieces.{put-none, put-length, put-then, line-length}
@@ -66,7 +66,7 @@ module _ {old : List ℕ} {at most : ℕ} {keys : List (List ℕ)} {values out :
       }
 
 -- the numbers that there are
-pub number-small : (r : Refusal) → numberOf r ≤ 17
+pub number-small : (r : Refusal) → numberOf r ≤ 18
 number-small NotWholeRows = omega arith
 number-small NoRows = omega arith
 number-small ManyRows = omega arith
@@ -84,3 +84,4 @@ number-small State = omega arith
 number-small Clock = omega arith
 number-small (P row) = omega arith
 number-small (NotOld row) = omega arith
+number-small (Log place) = omega arith

@@ -10,7 +10,7 @@ use Rattle.law.specs.Sums.{pick}
 use Rattle.law.specs.Refusal.{head}
 use Rattle.law.specs.Report.{placed}
 use Rattle.refusal.specs.declared.Refusal.{Refusal}
-use Rattle.refusal.specs.declared.Refusal.the-variants.{NotWholeRows, NoRows, ManyRows, Id, T, D, C, K, M, Repeated, Unschedulable, Text, Room, State, Clock, P, NotOld}
+use Rattle.refusal.specs.declared.Refusal.the-variants.{NotWholeRows, NoRows, ManyRows, Id, T, D, C, K, M, Repeated, Unschedulable, Text, Room, State, Clock, P, NotOld, Log}
 use Rattle.refusal.specs.Shown.{numberOf, alsoOf, isSome}
 
 pub place-twelve : (r : Refusal) (start : ℕ) → numberOf r ≡ 12 → start + head (alsoOf r) ≡ head (placed start (numberOf r) (alsoOf r))
@@ -31,6 +31,7 @@ place-twelve State start e = absurd (omega arith)
 place-twelve Clock start e = absurd (omega arith)
 place-twelve (P row) start e = absurd (omega arith)
 place-twelve (NotOld row) start e = absurd (omega arith)
+place-twelve (Log place) start e = absurd (omega arith)
 
 pub place-other : (n start : ℕ) (also : List ℕ) → (n ≡ 12 → ⊥) → head also ≡ head (placed start n also)
 place-other n start also h = sym (rw (ne-eqb n 12 h))

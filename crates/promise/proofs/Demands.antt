@@ -3,7 +3,6 @@ use mathlib.Core.Bool.{true}
 use mathlib.Core.List.{List, [], _∷_}
 use mathlib.Core.Path.{_≡_, refl, sym, ap, _∙_}
 use Prim.Native.Nat.{ℕ, _+_, _-_, _≤_, _<_}
-use native.Mathlib.Nat.{mul-le-mul-right}
 use native.Mathlib.Omega.{arith}
 use lib.Dec.{leb}
 use lib.ListN.{length, getD, drop, List·getD-append}
@@ -18,6 +17,7 @@ use Rattle.law.proofs.Table.{checked-accepted}
 use Rattle.law.proofs.First.{build-length, build-at}
 use Rattle.law.proofs.Sums.{among-same}
 use Rattle.law.proofs.Verdict.{pattern-of, AdmittedBy, admitted-says, LateBy, late-says, verdict-admitted}
+use Rattle.theory.proofs.Clock.{deadline-sooner}
 use Rattle.theory.proofs.Demand.{kept, missed-first, seen}
 use Rattle.promise.specs.Promised.{reported, rowsIn, rowIn, tookTicks, deadlineOf, Promised, TurnedDown}
 use Rattle.promise.proofs.FirstMiss.{first-miss}
@@ -65,10 +65,6 @@ module _ (table room : List ℕ) (vs : List ℕ) (e : verdict table (length room
   ticks : (i a : ℕ) → deadlineOf table i a ≤ clockEnd → tookTicks table i a ≡ took (tableOf table) i a
   ticks i a h = took-is table (w .vs) (w .good) i a h
 
-  -- an earlier job's deadline comes earlier
-  sooner : (i a b : ℕ) → a ≤ b → deadlineOf table i b ≤ clockEnd → deadlineOf table i a ≤ clockEnd
-  sooner i a b l h = omega (arith, mul-le-mul-right (rowIn table i .t) l)
-
   first-fits : (i : ℕ) → i < rowsIn table → response (tableOf table) i ≤ rowIn table i .d
   first-fits i h =
       let job = pattern-of (well .ranged i h) .first in
@@ -79,7 +75,7 @@ module _ (table room : List ℕ) (vs : List ℕ) (e : verdict table (length room
       → among (λ a. leb (tookTicks table i a) (rowIn table i .d)) a (rowIn table i .k) ≡ among (inTime (tableOf table) i) a (rowIn table i .k)
   window-same i a h d =
       among-same _ _ a (rowIn table i .k)
-      (λ j l q. ap (λ (z : ℕ). leb z (rowIn table i .d)) (ticks i j (sooner i j (a + (rowIn table i .k - 1)) (omega arith) d))
+      (λ j l q. ap (λ (z : ℕ). leb z (rowIn table i .d)) (ticks i j (deadline-sooner (rowIn table i) j (a + (rowIn table i .k - 1)) clockEnd (omega arith) d))
       ∙ sym (in-time-is (tableOf table) i j))
 
   shown : (i t : ℕ) → i < rowsIn table → t ≤ clockEnd → Seen (tableOf table) i t

@@ -9,11 +9,11 @@ use lib.ListN.{length, getD, length-map}
 use borrow.Author.Tests.{eq-eqb}
 use Rattle.law.specs.Sums.{bit}
 use Rattle.law.specs.Table.{Task, row, Ranged, WellFormed}
-use Rattle.law.specs.Tick.{Row, Core, State, Outcome, nothing, met, missed, noRow, freshRow, coreAt, live, outcome, settles, choose, fullLength, begin, advanceRow, settled, finish, tick, run, fresh, workAfter}
+use Rattle.law.specs.Tick.{Row, Core, State, Outcome, nothing, met, missed, noRow, freshRow, coreAt, live, outcome, settles, choose, fullLength, begin, advanceRow, settled, finish, tick, run, fresh, workAfter, clockEnd}
 use Rattle.law.specs.Sound.{SoundRow}
 use Rattle.law.specs.Promise.{stateAfter, during, settling, MissedFirst, Named}
 use Rattle.law.proofs.Verdict.{pattern-of}
-use Rattle.law.proofs.Ticks.{begun-length, finished-at, begin-sound, run-sound, run-time, run-length}
+use Rattle.law.proofs.Ticks.{begun-length, finished-at, begin-sound, full-lengths, run-sound, run-time, run-length}
 use Rattle.law.proofs.Fresh.{fresh-sound}
 use Rattle.theory.proofs.Demand.{named}
 
@@ -59,7 +59,8 @@ module _ (tasks : List Task) (well : WellFormed tasks) (i : ℕ) (late : MissedF
   unfolding s r stateAfter during fresh begin
   sound =
       let f = run-sound (row tasks i .d - 1) (fresh tasks) (fresh-sound tasks well) (omega (arith, g .d-high, g .t-high)) in
-      begin-sound (stateAfter tasks (row tasks i .d - 1)) f (omega (arith, run-time (row tasks i .d - 1) (fresh tasks), g .d-high, g .t-high)) .rows i there
+      let early : stateAfter tasks (row tasks i .d - 1) .time < clockEnd = omega (arith, run-time (row tasks i .d - 1) (fresh tasks), g .d-high, g .t-high) in
+      begin-sound (fullLength (s .rows)) s f early (full-lengths s f) .rows i there
 
   named-first : Named tasks i 0
   named-first = named tasks (well .ranged) i 0 (late .is-row)

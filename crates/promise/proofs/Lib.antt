@@ -1,6 +1,8 @@
 pub mod Runs
 pub mod FirstMiss
 pub mod Demands
+pub mod Replayed
+pub mod Replays
 pub mod Excluded
 pub mod Examples
 pub mod TextKept

@@ -13,8 +13,11 @@ use Rattle.law.specs.Refusal.{accepted}
 use Rattle.law.specs.Table.{tableOf, checked}
 use Rattle.law.specs.Tick.{Row, noRow, marks, fresh}
 use Rattle.law.specs.State.{stateOf, stateWords, savedWell, savedAnswer, laid, freshAnswer, freshWords, runWords}
+use Rattle.law.specs.Replay.{replayWords}
 use Rattle.law.proofs.Fresh.{fresh-sound, laid-saved}
 use Rattle.law.proofs.Laid.{laid-length}
+use Rattle.law.proofs.Replay.{replay-refused}
+use Rattle.law.proofs.ReplayAnswers.{replay-saved}
 use Rattle.law.proofs.Table.{checked-accepted, passed-on}
 use Rattle.law.proofs.Tests.{passes, fails, known}
 use Rattle.law.proofs.Ticks.{tasks-length}
@@ -56,7 +59,13 @@ begun table room vs e =
 
 ill : (words : List ℕ) → savedWell words ≡ false → Refused14 words
 unfolding savedAnswer
-ill words e = record { well = rw e; run = λ n. run-ill words n e; counts = λ i room. counts-ill words i room e }
+ill words e =
+    record {
+      well = rw e;
+      run = λ n. run-ill words n e;
+      replay = λ n log. replay-refused words n log 14 [] (run-ill words n e .0);
+      counts = λ i room. counts-ill words i room e;
+    }
 
 untrue : (words : List ℕ) (i : ℕ) → (rowSeen words i .tally .held ≡ marksHeld words i → ⊥) → Refused14 words
 untrue words i off = elim (known (savedWell words)) [ passes e ↦ absurd (off (given words e .each i)) | fails e ↦ ill words e ]
@@ -66,6 +75,7 @@ marks-kept =
     record {
       fresh = begun;
       run = λ words n good. given (runWords words n) (run-saved words good n);
+      replay = λ words n log good. given (replayWords words n log) (replay-saved words n log good);
       given = given;
       untrue = untrue;
       other-length = λ words h. (ill words (sym (length-off words h)), λ i. frame-length words i h);

@@ -5,10 +5,10 @@ use mathlib.Core.Path.{_≡_, refl, sym, ap, _∙_}
 use Prim.Native.Nat.{ℕ}
 use lib.Dec.{eqb}
 use Rattle.law.specs.Sums.{pick}
-use Rattle.law.specs.Refusal.{Answer, accepted, refused, head}
+use Rattle.law.specs.Refusal.{Answer, accepted, refused, head, second}
 use Rattle.refusal.specs.Shown as refusal
 use Rattle.refusal.specs.declared.Refusal.{Refusal}
-use Rattle.refusal.specs.declared.Refusal.the-variants.{NotWholeRows, NoRows, ManyRows, Id, T, D, C, K, M, Repeated, Unschedulable, Text, Room, State, Clock, P, NotOld}
+use Rattle.refusal.specs.declared.Refusal.the-variants.{NotWholeRows, NoRows, ManyRows, Id, T, D, C, K, M, Repeated, Unschedulable, Text, Room, State, Clock, P, NotOld, Log}
 use Rattle.book.specs.Shown as book
 use Rattle.book.specs.declared.Job.{Job}
 use Rattle.book.specs.declared.Job.the-variants.{Mandatory, Optional, Refused as JobRefused}
@@ -36,6 +36,9 @@ use Rattle.dispatch.specs.declared.start.Started.the-variants.{Rows as StartedR
 use Rattle.report.specs.Shown as report
 use Rattle.report.specs.declared.Printed.{Printed}
 use Rattle.report.specs.declared.Printed.the-variants.{Length as PrintedLength, Refused as PrintedRefused}
+use Rattle.replay.specs.Shown as replay
+use Rattle.replay.specs.declared.Replayed.{Replayed}
+use Rattle.replay.specs.declared.Replayed.the-variants.{Done as ReplayDone, Refused as ReplayRefused}
 use Rattle.rows.specs.declared.State.{State as SavedState}
 
 -- what can be told from its reading has one value for each
@@ -45,7 +48,7 @@ once reading back told {x} {y} e = sym (told x) ∙ ap back e ∙ told y
 -- a refusal, from its number and what is also returned
 refusalOf : ℕ → List ℕ → Refusal
 refusalOf n also =
-    pick (eqb n 1) NotWholeRows (pick (eqb n 2) NoRows (pick (eqb n 3) ManyRows (pick (eqb n 4) (Id (head also)) (pick (eqb n 5) (T (head also)) (pick (eqb n 6) (D (head also)) (pick (eqb n 7) (C (head also)) (pick (eqb n 8) (K (head also)) (pick (eqb n 9) (M (head also)) (pick (eqb n 10) (Repeated (head also)) (pick (eqb n 11) (Unschedulable (head also)) (pick (eqb n 12) (Text (head also)) (pick (eqb n 13) Room (pick (eqb n 14) State (pick (eqb n 15) Clock (pick (eqb n 16) (P (head also)) (NotOld (head also)))))))))))))))))
+    pick (eqb n 1) NotWholeRows (pick (eqb n 2) NoRows (pick (eqb n 3) ManyRows (pick (eqb n 4) (Id (head also)) (pick (eqb n 5) (T (head also)) (pick (eqb n 6) (D (head also)) (pick (eqb n 7) (C (head also)) (pick (eqb n 8) (K (head also)) (pick (eqb n 9) (M (head also)) (pick (eqb n 10) (Repeated (head also)) (pick (eqb n 11) (Unschedulable (head also)) (pick (eqb n 12) (Text (head also)) (pick (eqb n 13) Room (pick (eqb n 14) State (pick (eqb n 15) Clock (pick (eqb n 16) (P (head also)) (pick (eqb n 17) (NotOld (head also)) (Log (head also))))))))))))))))))
 
 refusal-told : (r : Refusal) → refusalOf (refusal.numberOf r) (refusal.alsoOf r) ≡ r
 unfolding refusalOf
@@ -66,6 +69,7 @@ refusal-told State = refl
 refusal-told Clock = refl
 refusal-told (P row) = refl
 refusal-told (NotOld row) = refl
+refusal-told (Log place) = refl
 
 -- an answer enum that is a value or a refusal
 back : {A : Type 0} → (ℕ → A) → (Refusal → A) → Answer → A
@@ -152,6 +156,19 @@ job-told (JobRefused r) = ap JobRefused (refusal-told r)
 
 pub job-once : {x y : Job} → book.jobShown x ≡ book.jobShown y → x ≡ y
 job-once = once book.jobShown (back (λ v. pick (eqb v 1) Mandatory Optional) JobRefused) job-told
+
+-- the one that has two values
+replay-back : Answer → Replayed
+replay-back (accepted vs) = ReplayDone (record { ticks = head vs; used = second vs })
+replay-back (refused n also) = ReplayRefused (refusalOf n also)
+
+replayed-told : (x : Replayed) → replay-back (replay.replayedShown x) ≡ x
+unfolding replay-back
+replayed-told (ReplayDone p) = refl
+replayed-told (ReplayRefused r) = ap ReplayRefused (refusal-told r)
+
+pub replayed-once : {x y : Replayed} → replay.replayedShown x ≡ replay.replayedShown y → x ≡ y
+replayed-once = once replay.replayedShown replay-back replayed-told
 
 -- a state by value is its words
 pub state-once : {s t : SavedState} → s .words ≡ t .words → s ≡ t

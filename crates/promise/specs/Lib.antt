@@ -1,4 +1,5 @@
 pub mod Promised
+pub mod Replayed
 pub mod Examples
 pub mod TextKept
 pub mod MissesLeft

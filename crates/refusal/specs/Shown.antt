@@ -4,7 +4,7 @@ use mathlib.Core.List.{List, [], _∷_}
 use Prim.Native.Nat.{ℕ}
 use Rattle.law.specs.Refusal.{Answer, refused}
 use Rattle.refusal.specs.declared.Refusal.{Refusal}
-use Rattle.refusal.specs.declared.Refusal.the-variants.{NotWholeRows, NoRows, ManyRows, Id, T, D, C, K, M, Repeated, Unschedulable, Text, Room, State, Clock, P, NotOld}
+use Rattle.refusal.specs.declared.Refusal.the-variants.{NotWholeRows, NoRows, ManyRows, Id, T, D, C, K, M, Repeated, Unschedulable, Text, Room, State, Clock, P, NotOld, Log}
 
 abbrev pub numberOf : Refusal → ℕ
 numberOf NotWholeRows = 1
@@ -24,6 +24,7 @@ numberOf State = 14
 numberOf Clock = 15
 numberOf (P row) = 16
 numberOf (NotOld row) = 17
+numberOf (Log place) = 18
 
 abbrev pub alsoOf : Refusal → List ℕ
 alsoOf NotWholeRows = []
@@ -43,6 +44,7 @@ alsoOf State = []
 alsoOf Clock = []
 alsoOf (P row) = row ∷ []
 alsoOf (NotOld row) = row ∷ []
+alsoOf (Log place) = place ∷ []
 
 -- whether there is one
 abbrev pub isSome : List ℕ → Bool

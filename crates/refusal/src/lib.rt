@@ -22,6 +22,7 @@ pub enum Refusal {
     Clock,
     P(u64),
     NotOld(u64),
+    Log(u64),
 }
 
 // The number of a refusal in documents 01 and 02.
@@ -46,6 +47,7 @@ pub fn number(r: Refusal) -> u64
         Refusal::Clock => 15,
         Refusal::P(_) => 16,
         Refusal::NotOld(_) => 17,
+        Refusal::Log(_) => 18,
     }
 }
 
@@ -71,6 +73,7 @@ pub fn also(r: Refusal) -> u64
         Refusal::Clock => 0,
         Refusal::P(row) => row,
         Refusal::NotOld(row) => row,
+        Refusal::Log(place) => place,
     }
 }
 
@@ -96,6 +99,7 @@ pub fn has_also(r: Refusal) -> bool
         Refusal::Clock => false,
         Refusal::P(_) => true,
         Refusal::NotOld(_) => true,
+        Refusal::Log(_) => true,
     }
 }
 

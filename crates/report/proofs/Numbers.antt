@@ -8,7 +8,7 @@ use borrow.Author.Tests.{leb-true}
 use Rattle.law.specs.Sums.{every}
 use Rattle.law.proofs.Tests.{both-left, both-right}
 use Rattle.refusal.specs.declared.Refusal.{Refusal}
-use Rattle.refusal.specs.declared.Refusal.the-variants.{NotWholeRows, NoRows, ManyRows, Id, T, D, C, K, M, Repeated, Unschedulable, Text, Room, State, Clock, P, NotOld}
+use Rattle.refusal.specs.declared.Refusal.the-variants.{NotWholeRows, NoRows, ManyRows, Id, T, D, C, K, M, Repeated, Unschedulable, Text, Room, State, Clock, P, NotOld, Log}
 use Rattle.refusal.specs.Shown.{numberOf}
 use Rattle.report.specs.Said.{Small}
 
@@ -37,3 +37,4 @@ number-some State = omega arith
 number-some Clock = omega arith
 number-some (P row) = omega arith
 number-some (NotOld row) = omega arith
+number-some (Log place) = omega arith

@@ -31,10 +31,10 @@ fn kind_at(pattern: u64, place: u64) -> u64
     if bit_at(pattern, place) { 1 } else { 0 }
 }
 
-// Step 1: a row with wait 0 releases its next job, with C work, D ticks to its deadline and its kind from its own pattern.
-pub fn released(r: Row, pattern: u64) -> Row
+// Step 1: a row with wait 0 releases its next job, with the work given (C in a run), D ticks to its deadline and its kind from its own pattern.
+pub fn released(r: Row, pattern: u64, work: u64) -> Row
     requires { ⌜ (Timed 0 (rowSaid r)) × (r .wait ≡ 0) × (pattern ≡ wordOf (taskSaid (r .task))) ⌝ }
-    ensures { λ q. ⌜ rowSaid q ≡ releaseRow (r .task .c) (rowSaid r) ⌝ }
+    ensures { λ q. ⌜ rowSaid q ≡ releaseRow work (rowSaid r) ⌝ }
 {
     let task = r.task;
     let mut tally = r.tally;
@@ -43,7 +43,7 @@ pub fn released(r: Row, pattern: u64) -> Row
         task,
         wait: r.task.t,
         place: next_place(task, r.place),
-        work: r.task.c,
+        work,
         left: r.task.d,
         kind: kind_at(pattern, r.place),
         tally,

@@ -7,17 +7,19 @@ ghost use Rattle.law.specs.Verdict.{verdict as verdictLaw, verdictRoom};
 ghost use Rattle.law.specs.Reading.{readAnswer, readRoom, writeAnswer, writeRoom};
 ghost use Rattle.law.specs.Carry.{toNewAnswer, toNewRoom, toOldAnswer, toOldRoom};
 ghost use Rattle.law.specs.Report.{reportAnswer, reportRoom};
+ghost use Rattle.law.specs.Replay.{replayAnswer, replayWords};
 ghost use Rattle.law.specs.State.{freshAnswer, freshWords, runAnswer, runWords, savedAnswer, countsAnswer, countsRoom, heldAnswer};
 ghost use Rattle.refusal.specs.Shown.{shown};
 ghost use Rattle.dispatch.specs.Shown.{ranShown};
 ghost use Rattle.text.specs.Written.{shown as writtenShown};
-ghost use Rattle.stand_c.specs.Numbered.{numbered};
+ghost use Rattle.stand_c.specs.Numbered.{numbered, numberedTwo};
 use book::Job;
 use book::Word;
 use dispatch::held::Marks;
 use dispatch::run::Ran;
 use dispatch::start::Started;
 use refusal::Refusal;
+use replay::Replayed;
 use report::Printed;
 use table::Checked;
 use text::read::Reading;
@@ -30,6 +32,15 @@ use verdict::Verdict;
 pub struct Answer {
     pub refusal: u64,
     pub value: u64,
+}
+
+// The answer of a replay, which has two values: where `refusal` is 0, `value` is the ticks done and `used` the numbers used; otherwise `value` is
+// the place that goes with the refusal and `used` is 0.
+#[repr(C)]
+pub struct ReplayAnswer {
+    pub refusal: u64,
+    pub value: u64,
+    pub used: u64,
 }
 
 fn refused(r: Refusal) -> Answer
@@ -213,6 +224,27 @@ pub extern "C" fn gp_run(state: &mut [u64], n: u32) -> Answer
     ensures state { λ a. ⌜ now (state .exit) ≡ runWords (now (state .entry)) n ⌝ }
 {
     ran(dispatch::run::run_words(state, n))
+}
+
+// At most n ticks of a saved state with the lengths of a log, one for each job that is released, in place of C. It stops before the first
+// tick that releases more jobs than the log has left.
+#[no_mangle]
+pub extern "C" fn gp_replay(state: &mut [u64], n: u32, log: &[u32]) -> ReplayAnswer
+    ensures answer { λ a. ⌜ a ≡ numberedTwo (replayAnswer (now (state .entry)) n (now (log .entry))) ⌝ }
+    ensures state { λ a. ⌜ now (state .exit) ≡ replayWords (now (state .entry)) n (now (log .entry)) ⌝ }
+{
+    match replay::replay_words(state, n, log) {
+        Replayed::Done(progress) => ReplayAnswer {
+            refusal: 0,
+            value: progress.ticks,
+            used: progress.used,
+        },
+        Replayed::Refused(r) => ReplayAnswer {
+            refusal: refusal::number(r),
+            value: refusal::also(r),
+            used: 0,
+        },
+    }
 }
 
 // The counts of one row of a saved state, in seven words of a room: released, mandatory met, mandatory missed, optional met, optional missed,

@@ -8,9 +8,9 @@ use lib.Dec.{eqb}
 use lib.ListN.{length, getD, set}
 use Rattle.law.specs.Sums.{bit}
 use Rattle.law.specs.Table.{Task, row, wordOf}
-use Rattle.law.specs.Tick.{Row, State, choose, fullLength, begin, finish, tick, clockEnd}
+use Rattle.law.specs.Tick.{Row, State, choose, begin, finish, tickWith, clockEnd}
 use Rattle.law.specs.State.{stateOf, laid, tasksOf}
-use Rattle.law.specs.Sound.{SoundState}
+use Rattle.law.specs.Sound.{SoundState, Lengths}
 use Rattle.law.proofs.Ticks.{finished-length, begin-sound, task-at, tasks-length}
 use Rattle.rows.specs.Said.{Laid, Held, Fetched, advancedState, countedTick}
 use Rattle.rows.proofs.Words.{says, laid-as}
@@ -39,40 +39,34 @@ counted {words} l x b e =
     ap (λ (z : List ℕ). set (set z 1 (getD z 1 0 + 1)) 2 (getD (set z 1 (getD z 1 0 + 1)) 2 0 + x)) (l .is)
     ∙ ap (λ (z : ℕ). laid (record { time = stateOf words .time + 1; idle = stateOf words .idle + z; rows = stateOf words .rows })) e
 
-module _ {w₀ w₁ : List ℕ} (h : Held 0 w₀) (early : stateOf w₀ .time < clockEnd) (begun : w₁ ≡ laid (begin (fullLength (stateOf w₀ .rows)) (stateOf w₀))) where
-  abbrev pub s₁ : State
-  s₁ = begin (fullLength (stateOf w₀ .rows)) (stateOf w₀)
+-- the releases of a tick, with lengths from 1 to C
+pub begun-held : {w₀ w₁ : List ℕ} (work : ℕ → ℕ) → Held 0 w₀ → stateOf w₀ .time < clockEnd → Lengths work (stateOf w₀ .rows)
+    → w₁ ≡ laid (begin work (stateOf w₀)) → Held 1 w₁
+begun-held {w₀} work h early g begun = held-as (begin work (stateOf w₀)) begun (begin-sound work (stateOf w₀) (h .sound) early g)
 
-  pub begun-held : Held 1 w₁
-  begun-held = held-as s₁ begun (begin-sound (stateOf w₀) (h .sound) early)
+-- the rest of it
+module _ {w₁ w₂ : List ℕ} (h : Held 1 w₁) (chosen : ℕ) (advanced : w₂ ≡ laid (advancedState chosen (stateOf w₁))) where
+  pub advanced-laid : Laid w₂
+  advanced-laid = laid-as (advancedState chosen (stateOf w₁)) advanced (omega (arith, finished-length chosen (stateOf w₁ .rows), h .laid .few))
 
-  begun-time : stateOf w₁ .time ≡ stateOf w₀ .time
-  unfolding begin
-  begun-time = ap (λ (z : State). z .time) (says s₁ begun)
+  pub advanced-time : stateOf w₂ .time ≡ stateOf w₁ .time
+  advanced-time = ap (λ (z : State). z .time) (says (advancedState chosen (stateOf w₁)) advanced)
 
-  begun-idle : stateOf w₁ .idle ≡ stateOf w₀ .idle
-  unfolding begin
-  begun-idle = ap (λ (z : State). z .idle) (says s₁ begun)
+  pub advanced-idle : stateOf w₂ .idle ≡ stateOf w₁ .idle
+  advanced-idle = ap (λ (z : State). z .idle) (says (advancedState chosen (stateOf w₁)) advanced)
 
-  module _ {w₂ : List ℕ} (chosen : ℕ) (advanced : w₂ ≡ laid (advancedState chosen (stateOf w₁))) where
-    pub advanced-laid : Laid w₂
-    advanced-laid = laid-as (advancedState chosen (stateOf w₁)) advanced (omega (arith, finished-length chosen (stateOf w₁ .rows), begun-held .laid .few))
+  pub finished : {w₃ : List ℕ} (rows : ℕ) → chosen ≡ choose (stateOf w₁ .rows) → rows ≡ length (stateOf w₁ .rows)
+      → w₃ ≡ laid (countedTick (eqb chosen rows) (stateOf w₂)) → w₃ ≡ laid (finish (stateOf w₁))
+  unfolding finish
+  finished rows ec er e =
+      e ∙ ap (λ (z : State). laid (countedTick (eqb chosen rows) z)) (says (advancedState chosen (stateOf w₁)) advanced)
+      ∙ ap (λ (z : ℕ). laid (countedTick (eqb chosen z) (advancedState chosen (stateOf w₁)))) er
+      ∙ ap (λ (z : ℕ). laid (countedTick (eqb z (length (stateOf w₁ .rows))) (advancedState z (stateOf w₁)))) ec
 
-    pub advanced-time : stateOf w₂ .time ≡ stateOf w₀ .time
-    advanced-time = ap (λ (z : State). z .time) (says (advancedState chosen (stateOf w₁)) advanced) ∙ begun-time
-
-    pub advanced-idle : stateOf w₂ .idle ≡ stateOf w₀ .idle
-    advanced-idle = ap (λ (z : State). z .idle) (says (advancedState chosen (stateOf w₁)) advanced) ∙ begun-idle
-
-    -- all of a tick
-    pub ticked : {w₃ : List ℕ} (rows : ℕ) → chosen ≡ choose (stateOf w₁ .rows) → rows ≡ length (stateOf w₁ .rows)
-        → w₃ ≡ laid (countedTick (eqb chosen rows) (stateOf w₂)) → w₃ ≡ laid (tick (stateOf w₀))
-    unfolding tick finish
-    ticked rows ec er e =
-        e ∙ ap (λ (z : State). laid (countedTick (eqb chosen rows) z)) (says (advancedState chosen (stateOf w₁)) advanced)
-        ∙ ap (λ (z : ℕ). laid (countedTick (eqb chosen z) (advancedState chosen (stateOf w₁)))) er
-        ∙ ap (λ (z : ℕ). laid (countedTick (eqb z (length (stateOf w₁ .rows))) (advancedState z (stateOf w₁)))) ec
-        ∙ ap (λ (z : State). laid (finish z)) (says s₁ begun)
+-- all of a tick
+pub ticked-with : (w₀ : List ℕ) {w₁ w₂ : List ℕ} (work : ℕ → ℕ) → w₁ ≡ laid (begin work (stateOf w₀)) → w₂ ≡ laid (finish (stateOf w₁))
+    → w₂ ≡ laid (tickWith work (stateOf w₀))
+ticked-with w₀ work begun e = e ∙ ap (λ (z : State). laid (finish z)) (says (begin work (stateOf w₀)) begun)
 
 -- the pattern words serve every state of a run, since its tasks stay
 pub fetched-still : {rows again : List Row} {patterns : List ℕ} → tasksOf again ≡ tasksOf rows → Fetched rows patterns → Fetched again patterns

@@ -5,7 +5,7 @@ ghost use lib.Dec.{eqb, ltb};
 ghost use Rattle.law.specs.Sums.{bit, both, pick};
 ghost use lib.ListN.{length, getD};
 ghost use Rattle.law.specs.Table.{wordOf};
-ghost use Rattle.law.specs.Tick.{noRow, coreAt, releaseRow, advanceRow, choose as chooseLaw, fullLength, begin, tick as tickLaw, run as runLaw, clockEnd};
+ghost use Rattle.law.specs.Tick.{noRow, coreAt, releaseRow, advanceRow, choose as chooseLaw, fullLength, begin, finish as finishLaw, tick as tickLaw, run as runLaw, clockEnd};
 ghost use Rattle.law.specs.State.{stateOf, laid, withRow};
 ghost use Rattle.rows.specs.Said.{Timed, Laid, Held, Fetched, advancedState, countedTick};
 
@@ -28,7 +28,16 @@ pub fn rows_of(words: &[u64]) -> usize
     words[0] as usize
 }
 
-// Step 1 for row i: it releases where its wait, word 7 of a row, is 0.
+// Step 1 for row i whose wait is 0: its next job is released with the work given.
+pub fn release_row(words: &mut [u64], i: usize, pattern: u64, work: u64)
+    requires { ⌜ (Laid (now words)) × (i < length (stateOf (now words) .rows)) × (Timed 0 (getD (stateOf (now words) .rows) i noRow)) × (coreAt (stateOf (now words) .rows) i .wait ≡ 0) × (pattern ≡ wordOf (coreAt (stateOf (now words) .rows) i .task)) ⌝ }
+    ensures { λ _. ⌜ now (words .exit) ≡ laid (withRow (stateOf (now (words .entry))) i (releaseRow work (getD (stateOf (now (words .entry)) .rows) i noRow))) ⌝ }
+{
+    let r = row_at(words, i);
+    put_row(words, i, released(r, pattern, work));
+}
+
+// Step 1 for row i: it releases where its wait, word 7 of a row, is 0; with C work, word 1.
 fn release_one(words: &mut [u64], i: usize, pattern: u64)
     requires { ⌜ (Laid (now words)) × (i < length (stateOf (now words) .rows)) × (Timed 0 (getD (stateOf (now words) .rows) i noRow)) × (pattern ≡ wordOf (coreAt (stateOf (now words) .rows) i .task)) ⌝ }
     ensures { λ _. ⌜ now (words .exit) ≡ laid (withRow (stateOf (now (words .entry))) i (releaseRow (coreAt (stateOf (now (words .entry)) .rows) i .task .c) (getD (stateOf (now (words .entry)) .rows) i noRow))) ⌝ }
@@ -36,8 +45,8 @@ fn release_one(words: &mut [u64], i: usize, pattern: u64)
     if word(words, i, 7) != 0 {
         return;
     }
-    let r = row_at(words, i);
-    put_row(words, i, released(r, pattern));
+    let work = word(words, i, 1);
+    release_row(words, i, pattern, work);
 }
 
 // Steps 3 and 4 for row i, the whole row.
@@ -158,16 +167,24 @@ fn count_tick(words: &mut [u64], idle: bool)
     words[2] = words[2] + one(idle);
 }
 
-// One tick: the releases, the choice, the work and the settling.
+// Steps 2 to 4, once the rows have released: the choice, the work and the settling.
+pub fn finish(words: &mut [u64])
+    requires { ⌜ Held 1 (now words) ⌝ }
+    ensures { λ _. ⌜ now (words .exit) ≡ laid (finishLaw (stateOf (now (words .entry)))) ⌝ }
+{
+    let chosen = choose(words);
+    let rows = rows_of(words);
+    advance_all(words, chosen);
+    count_tick(words, chosen == rows);
+}
+
+// One tick of a run: the releases, each with C work, and the rest.
 fn tick(words: &mut [u64], patterns: &[u64])
     requires { ⌜ (Held 0 (now words)) × (stateOf (now words) .time < clockEnd) × (Fetched (stateOf (now words) .rows) (now patterns)) ⌝ }
     ensures { λ _. ⌜ now (words .exit) ≡ laid (tickLaw (stateOf (now (words .entry)))) ⌝ }
 {
     release_all(words, patterns);
-    let chosen = choose(words);
-    let rows = rows_of(words);
-    advance_all(words, chosen);
-    count_tick(words, chosen == rows);
+    finish(words);
 }
 
 // n ticks, one after the other.

@@ -32,6 +32,7 @@ fn answer(case: &[u64]) {
         11 => run::held(case),
         12 => texts::to_new(case),
         13 => texts::to_old(case),
+        14 => run::replay(case),
         _ => {}
     }
     io::write_all(STDOUT_FILENO, b"\n");

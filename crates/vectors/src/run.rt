@@ -1,4 +1,4 @@
-// Operations over a state, which stands in a room of the length asked, at most 672: 5 fresh, 6 run, 7 counts, 11 met marks.
+// Operations over a state, which stands in a room of the length asked, at most 672: 5 fresh, 6 run, 7 counts, 11 met marks, 14 replay.
 use crate::numbers::low_at;
 use crate::numbers::number_at;
 use crate::numbers::wide_part_of;
@@ -14,6 +14,7 @@ use dispatch::start::Started;
 use dispatch::start::fresh_words;
 use dispatch::well::is_well;
 use refusal::Refusal;
+use replay::replay_words;
 
 fn fresh_in(table: &[u32], state: &mut [u64]) {
     match fresh_words(table, state) {
@@ -110,4 +111,32 @@ pub(crate) fn held(case: &[u64]) {
     let n = words_of(case, 6, &mut table);
     let length = wide_part_of(case, 1, &state);
     held_in(case, &table[..n], &mut state[..length]);
+}
+
+fn replay_in(case: &[u64], table: &[u32], log: &[u32], state: &mut [u64]) {
+    begin(case, table, state);
+    show::replayed(replay_words(state, low_at(case, 5), log));
+    show::state(state);
+}
+
+// The numbers of the log stand before the words of the table.
+fn replay_of(case: &[u64], rest: &[u64]) {
+    let mut log = [0u32; 512];
+    let mut table = [0u32; 256];
+    let mut state = [BEFORE as u64; 672];
+    let count = wide_part_of(case, 6, rest);
+    let logged = words_of(&rest[..count], 0, &mut log);
+    let n = words_of(&rest[count..], 0, &mut table);
+    let length = wide_part_of(case, 1, &state);
+    replay_in(case, &table[..n], &log[..logged], &mut state[..length]);
+}
+
+// `14 length n place value more count log words`: fresh, n ticks, the word at the place changed, a replay of at most `more` ticks with a log of
+// `count` numbers, at most 512; an answer of each but the change, that of the replay as three numbers, and the state.
+pub(crate) fn replay(case: &[u64]) {
+    if case.len() < 7 {
+        replay_of(case, &case[..0]);
+    } else {
+        replay_of(case, &case[7..]);
+    }
 }

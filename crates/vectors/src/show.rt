@@ -4,6 +4,7 @@ use crate::numbers::held;
 use dispatch::run::Ran;
 use libc::STDOUT_FILENO;
 use refusal::Refusal;
+use replay::Replayed;
 
 // What a room holds before a call.
 pub(crate) const BEFORE: u32 = 4000000007;
@@ -29,6 +30,20 @@ pub(crate) fn ran(r: Ran) {
     match r {
         Ran::Done => accepted(0),
         Ran::Refused(refusal) => refused(refusal),
+    }
+}
+
+// A replay's answer has a second value: the numbers used, 0 where it is refused.
+pub(crate) fn replayed(r: Replayed) {
+    match r {
+        Replayed::Done(progress) => {
+            accepted(progress.ticks);
+            number(progress.used);
+        }
+        Replayed::Refused(refusal) => {
+            refused(refusal);
+            number(0);
+        }
     }
 }
 

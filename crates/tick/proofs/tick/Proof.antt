@@ -1,56 +1,36 @@
--- `tick::tick` meets its contract: routine by routine, the words are those of the law's halves.
-use native.Mathlib.Omega.{arith}
-use Rattle.rows.specs.Said.{Held}
-use Rattle.tick.proofs.Chain.{begun-held, advanced-laid, advanced-time, advanced-idle, ticked}
+-- `tick::tick` meets its contract: the releases at full length, then the second half.
+use Rattle.law.specs.Tick.{fullLength, tick}
+use Rattle.law.specs.State.{stateOf}
+use Rattle.law.proofs.Ticks.{full-lengths}
+use Rattle.tick.proofs.Chain.{begun-held, ticked-with}
 use borrow.Author.Needs.{needs}
 use Rattle.tick.proofs.tick.Statement.{statement}
 use Rattle.tick.proofs.tick.Tie as tie
 
-abbrev start : tie.After-release-all → tie.Start
-start c = c .before .before .before .before
-
-begun : (c : tie.After-release-all) → Held 1 (c .release-all .last .0)
-begun c = begun-held (start c .pre .0) (start c .pre .1) (c .release-all .ensures)
-
 release-all-requires : tie.Need-release-all-requires
 release-all-requires c κs = search needs
 
-choose-requires : tie.Need-choose-requires
-choose-requires c κs = begun (c .before .before .before) .laid
-
-rows-of-requires : tie.Need-rows-of-requires
-rows-of-requires c κs = begun (c .before .before .before .before .before) .laid
-
-advance-all-requires : tie.Need-advance-all-requires
-advance-all-requires c κs = begun (c .before .before .before .before .before .before .before)
-
-count-tick-requires : tie.Need-count-tick-requires
-count-tick-requires c κs =
-    let r = c .before .before .before .before .before .before .before .before .before .before .before in
-    let s = start r in
-    let e = c .before .before .before .advance-all .ensures in
-    let t = advanced-time (s .pre .0) (s .pre .1) (r .release-all .ensures) _ e in
-    let d = advanced-idle (s .pre .0) (s .pre .1) (r .release-all .ensures) _ e in
-    (advanced-laid (s .pre .0) (s .pre .1) (r .release-all .ensures) _ e, omega (arith, s .pre .1), omega (arith, s .pre .0 .sound .idle))
+finish-requires : tie.Need-finish-requires
+finish-requires c κs =
+    let s = c .before .before .before .before .before .before .before in
+    let w = stateOf (s .args .words .now) in
+    begun-held (fullLength (w .rows)) (s .pre .0) (s .pre .1) (full-lengths w (s .pre .0 .sound)) (c .before .before .before .release-all .ensures)
 
 same-length : tie.Need-same-length
 same-length c = search needs
 
 returns : tie.Need-returns
+unfolding tick
 returns c =
-    let k = c .before .before in
-    let r = k .before .before .before .before .before .before .before .before .before .before .before .before in
-    let s = start r in
-    ticked (s .pre .0) (s .pre .1) (r .release-all .ensures) _ (k .before .before .before .before .advance-all .ensures) _ (k .before .before .before .before .before .before .before .before .choose .ensures) (k .before .before .before .before .before .before .rows-of .ensures) (k .count-tick .ensures)
+    let s = c .before .before .before .before .before .before .before .before .before .before in
+    let w = s .args .words .now in
+    ticked-with w (fullLength (stateOf w .rows)) (c .before .before .before .before .before .before .release-all .ensures) (c .before .before .finish .ensures)
 
 pub tick-spec : {M : Type 1} → statement M
 tick-spec =
     tie.close
     (tie.spec
     release-all-requires
-    choose-requires
-    rows-of-requires
-    advance-all-requires
-    count-tick-requires
+    finish-requires
     same-length
     returns)

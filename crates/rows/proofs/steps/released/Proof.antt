@@ -34,7 +34,7 @@ returns c =
             task = taskSaid (r .task);
             wait = r .task .t;
             place = c .before .next-place .ensures i;
-            work = r .task .c;
+            work = s .args .work;
             left = r .task .d;
             kind = kind i;
           };
