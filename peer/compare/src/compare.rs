@@ -7,6 +7,7 @@ mod held;
 mod pattern;
 mod promise;
 mod red;
+mod replay;
 mod report;
 mod table;
 mod text;
@@ -67,6 +68,7 @@ pub fn all() -> impl Iterator<Item = &'static Comparison> {
         text::ALL,
         report::ALL,
         convert::ALL,
+        replay::ALL,
     ];
     parts.into_iter().flatten()
 }

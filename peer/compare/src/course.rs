@@ -4,7 +4,7 @@ use peer::answer::Answer;
 use peer::rng::Rng;
 
 /// Numbers in the table "Refusal numbers", with 0 for accepted.
-const NUMBERS: usize = 18;
+const NUMBERS: usize = 19;
 
 /// Why a comparison stopped: the whole case, ready to print.
 #[derive(Debug)]

@@ -1,6 +1,10 @@
 //! The first program's C functions. All the `unsafe` of this package is here.
 #![allow(unsafe_code)]
 
+mod replay;
+
+pub use replay::{replay, replay_lent};
+
 use peer::answer::Answer;
 use peer::convert::Way;
 

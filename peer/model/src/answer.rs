@@ -32,6 +32,8 @@ pub mod refusal {
     pub const P: u64 = 16;
     /// "a row with p 1" (document 02, 4/14)
     pub const P_IS_1: u64 = 17;
+    /// a measured job length, "the first number out of range" (document 02, 5/14)
+    pub const LENGTH: u64 = 18;
 }
 
 /// What a call gives back beside the lent room.
@@ -65,10 +67,11 @@ impl Answer {
     }
 
     /// The row or place "where there is one": the column "also returned" has
-    /// an entry for the numbers 4 to 12, 16 and 17 come "with its row", and no other has one.
+    /// an entry for the numbers 4 to 12, 16 and 17 come "with its row", 18 "with its place",
+    /// and no other has one.
     pub const fn at(self) -> Option<u64> {
         match self.refusal {
-            refusal::ID..=refusal::TEXT_FAULT | refusal::P | refusal::P_IS_1 => Some(self.value),
+            refusal::ID..=refusal::TEXT_FAULT | refusal::P..=refusal::LENGTH => Some(self.value),
             _ => None,
         }
     }

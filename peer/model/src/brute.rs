@@ -9,13 +9,15 @@
 //!
 //! [`spare`] does the same for the figure of that name, [`held`] for the number of met
 //! marks, and [`pattern`] and [`verdict`] count jobs where the rules have a formula.
-//! [`convert`] carries texts from one form to the other by whole lines.
+//! [`convert`] carries texts from one form to the other by whole lines, and [`replay`]
+//! lists every release before a tick is run.
 
 pub mod convert;
 mod form;
 pub mod held;
 mod lines;
 pub mod pattern;
+pub mod replay;
 pub mod spare;
 pub mod verdict;
 

@@ -4,6 +4,11 @@
 //! table alone the fate of every job is worked out again: job a of a row is
 //! released at tick a x T, lives for D ticks at most and needs C of the ticks
 //! given to its row; its kind is its row's own pattern's. Then the promises are looked for in those fates.
+//! Of a replay the jobs' lengths are given as well, and take the place of C.
+
+mod replayed;
+
+pub use replayed::judge_replay;
 
 use crate::answer::{refusal, Answer};
 use crate::brute::pattern::is_mandatory;
@@ -43,26 +48,36 @@ pub fn trace(words: &[u32], ticks: u32) -> Result<Trace, Answer> {
 /// given to the row. A tick given to a row that has no live job is an error, and
 /// so is a row without a period.
 pub fn fates(task: &TaskRow, at: usize, chosen: &[Option<usize>]) -> Result<Vec<Fate>, String> {
+    fates_of(task, at, chosen, |_| task.c)
+}
+
+/// The same of jobs that each have a length of their own.
+fn fates_of(
+    task: &TaskRow,
+    at: usize,
+    chosen: &[Option<usize>],
+    length: impl Fn(usize) -> u32,
+) -> Result<Vec<Fate>, String> {
     let (t, d) = (task.t as usize, task.d as usize);
     if t == 0 {
         return Err(format!("row {at}: no period"));
     }
     let mut fates = vec![Fate::Live; chosen.len().div_ceil(t)];
     for (job, fate) in fates.iter_mut().enumerate() {
-        let release = job * t;
+        let (release, length) = (job * t, length(job));
         let mut units = 0;
         let ticks = chosen[release..].iter().take(t);
         for (since, _) in ticks.enumerate().filter(|(_, row)| **row == Some(at)) {
-            if since >= d || units == task.c {
+            if since >= d || units == length {
                 return Err(format!("row {at}, job {job}: a tick given to no live job"));
             }
             units += 1;
-            if units == task.c {
+            if units == length {
                 *fate = Fate::Met(since as u32 + 1);
             }
         }
         // "A job with work left whose deadline is t + 1 is missed and dropped."
-        if units < task.c && release + d <= chosen.len() {
+        if units < length && release + d <= chosen.len() {
             *fate = Fate::Missed;
         }
     }
@@ -107,7 +122,7 @@ pub fn judge(
     }
     idle_agrees(trace)?;
     match verdict.refusal {
-        0 => admitted(rows, &all, responses),
+        0 => admitted(rows, &all, responses, trace.chosen.len()),
         refusal::UNSCHEDULABLE => unschedulable(rows, &all, verdict.value as usize),
         _ => Err(format!("no verdict: {verdict:?}")),
     }
@@ -151,7 +166,12 @@ fn counts_agree(task: &TaskRow, at: usize, fates: &[Fate], state: &State) -> Res
 }
 
 /// An admitted table: every row keeps its promises.
-fn admitted(rows: &[TaskRow], all: &[Vec<Fate>], responses: &[u32]) -> Result<Kept, String> {
+fn admitted(
+    rows: &[TaskRow],
+    all: &[Vec<Fate>],
+    responses: &[u32],
+    ticks: usize,
+) -> Result<Kept, String> {
     let mut kept = Kept {
         admitted: true,
         ..Kept::default()
@@ -160,11 +180,21 @@ fn admitted(rows: &[TaskRow], all: &[Vec<Fate>], responses: &[u32]) -> Result<Ke
         if fates.first() != Some(&Fate::Met(*response)) {
             return Err(format!("row {at}: job 0 does not take {response} ticks"));
         }
-        mandatory_in_time(task, fates, *response, &mut kept)
+        row_keeps(task, fates, (*response, ticks), &mut kept)
             .map_err(|e| format!("row {at}: {e}"))?;
-        windows_hold(task, fates, &mut kept).map_err(|e| format!("row {at}: {e}"))?;
     }
     Ok(kept)
+}
+
+/// The promises of one row over so many ticks, its response time as an upper bound.
+fn row_keeps(
+    task: &TaskRow,
+    fates: &[Fate],
+    (response, ticks): (u32, usize),
+    kept: &mut Kept,
+) -> Result<(), String> {
+    mandatory_in_time(task, fates, (response, ticks), kept)?;
+    windows_hold(task, fates, kept)
 }
 
 /// Every mandatory job is met by its deadline and within the response time; one
@@ -172,7 +202,7 @@ fn admitted(rows: &[TaskRow], all: &[Vec<Fate>], responses: &[u32]) -> Result<Ke
 fn mandatory_in_time(
     task: &TaskRow,
     fates: &[Fate],
-    response: u32,
+    (response, ticks): (u32, usize),
     kept: &mut Kept,
 ) -> Result<(), String> {
     for (job, fate) in fates.iter().enumerate() {
@@ -181,8 +211,8 @@ fn mandatory_in_time(
             continue;
         }
         match fate {
-            Fate::Met(ticks) if *ticks <= response && *ticks <= task.d => kept.mandatory_jobs += 1,
-            Fate::Live if job + 1 == fates.len() => (),
+            Fate::Met(taken) if *taken <= response && *taken <= task.d => kept.mandatory_jobs += 1,
+            Fate::Live if ticks - job * (task.t as usize) < response as usize => (),
             _ => {
                 return Err(format!(
                     "mandatory job {job}: {fate:?}, response {response}"

@@ -20,10 +20,12 @@
 //! | `11 room n at value row words` | fresh, n ticks, the word at `at` made `value`, the row's met marks | three answers |
 //! | `12 room bytes` | the new text of an old one | answer, every byte of the room |
 //! | `13 room bytes` | the old text of a new one | answer, every byte of the room |
+//! | `14 room n at value more count log words` | fresh, n ticks, the word at `at` made `value`, a replay of more ticks | three answers, the state |
 //!
-//! An answer is two numbers, the refusal's and the value. `room`, and `counts`
-//! for the seventh operation, are the lengths of lent rooms. A place past the room's
-//! end changes nothing. A state is shown by its head and its rows, word by word,
+//! An answer is two numbers, the refusal's and the value; a replay's is three, the
+//! numbers used last. `room`, and `counts` for the seventh operation, are the lengths
+//! of lent rooms. `count` is the length of the log, which is what there is of it where
+//! the line has fewer numbers. A place past the room's end changes nothing. A state is shown by its head and its rows, word by word,
 //! where the room could hold one, and by a digest of the whole room.
 
 mod answers;
@@ -49,6 +51,9 @@ pub const WORDS_MAX: usize = 256;
 
 /// The most bytes a case's text may have.
 pub const BYTES_MAX: usize = 2_000;
+
+/// The most numbers that a case's log may have.
+pub const LOG_MAX: usize = 512;
 
 /// One line of numbers, ended by LF.
 fn line(numbers: &[u64]) -> String {

@@ -7,6 +7,8 @@ mod bounds;
 mod literal;
 #[path = "dispatch/places.rs"]
 mod places;
+#[path = "dispatch/replays.rs"]
+mod replays;
 #[path = "dispatch/runs.rs"]
 mod runs;
 #[path = "dispatch/saved.rs"]

@@ -1,10 +1,12 @@
 //! Nothing panics: rubbish through every function.
 
+use peer::brute::replay::{read as read_log, releases};
 use peer::convert::{convert, program, Way};
 use peer::counts::held_words;
 use peer::dispatch::{fresh_words, well_formed_words, Row, State};
 use peer::dispatch::{from_words, run, run_words, spare, tick_words, to_words, well_formed};
-use peer::gen::{damaged_states, scrambled_state};
+use peer::dispatch::{replay, replay_plain, replay_words};
+use peer::gen::{any_log, damaged_states, scrambled_state};
 use peer::pattern::{count, entry, job, mandatory, place, word};
 use peer::report::{report, report_into};
 use peer::rng::Rng;
@@ -93,10 +95,12 @@ fn rubbish_states() {
             14
         );
         held_words(&words, any_number(&mut rng) as u32);
+        rubbish_log(&mut rng, &mut words);
         let length = rng.index(700);
         words.resize(length, 0);
         assert_eq!(tick_words(&mut words).refusal, 14);
         held_words(&words, any_number(&mut rng) as u32);
+        rubbish_log(&mut rng, &mut words);
         let mut scrambled = scrambled_state(&mut rng);
         let answer = well_formed_words(&scrambled);
         let ran = run_words(&mut scrambled, 3);
@@ -105,6 +109,15 @@ fn rubbish_states() {
             .iter()
             .all(|d| d.at < words.len()));
     }
+}
+
+/// A replay on words that are no state, with the log of what they would release.
+fn rubbish_log(rng: &mut Rng, words: &mut [u64]) {
+    let n = any_number(rng) as u32;
+    let jobs = releases(words, n.min(50), 50);
+    let log = any_log(rng, &jobs);
+    assert!(read_log(&jobs, n, &log).used <= log.len());
+    assert_eq!(replay_words(words, n, &log).answer.refusal, 14);
 }
 
 /// A state put together field by field, with no regard for any bound.
@@ -136,6 +149,8 @@ fn rubbish_fields() {
         let before = state.clone();
         assert!(!well_formed(&state));
         assert_eq!(run(&mut state, 2).refusal, 14);
+        assert_eq!(replay(&mut state, 2, &[1]).answer.refusal, 14);
+        assert_eq!(replay_plain(&mut state, 2, &[1]).answer.refusal, 14);
         assert_eq!(state, before);
         assert_eq!(from_words(&to_words(&state)), Some(state));
     }

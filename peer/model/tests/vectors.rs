@@ -75,6 +75,7 @@ fn every_refusal_is_reached() {
     assert_eq!(given(12, 1), BTreeSet::from(old));
     let new = text.into_iter().chain([17]);
     assert_eq!(given(13, 1), new.collect());
+    assert_eq!(given(14, 5), BTreeSet::from([0, 14, 15, 18]));
 }
 
 #[test]
@@ -174,6 +175,36 @@ fn texts_carried_by_hand() {
     assert_eq!(of("13 1", old), "13 12 32 255\n");
 }
 
+/// 5/14: P5 with four numbers stops before tick 8; a number too large for row 0 and one
+/// for row 1; a log shorter than it is said to be, which leaves no table.
+#[test]
+fn replays_by_hand() {
+    let of = |head: &str| answered(&format!("14 {head} 11 2 4 4 1 2 0 12 4 6 6 2 3 0\n"));
+    let line = of("643 0 672 0 24 4 1 2 2 1");
+    let row_0 = "11 2 4 4 1 2 0 0 0 0 0 0 3 2 1 0 1 0 0 2";
+    let row_1 = "12 4 6 6 2 3 0 4 2 0 0 0 7 2 2 0 0 0 0 3";
+    let shown = format!("14 0 2 0 0 0 8 4 2 8 2 {row_0} {row_1} ");
+    assert!(line.starts_with(&shown), "{line}");
+    let fresh = "2 0 0 11 2 4 4 1 2 0 0 0 0 0 0 3 0 0 0 0 0 0 2 12 ";
+    for (head, told) in [
+        ("643 0 672 0 24 0", "0 0 0"),
+        ("643 0 672 0 24 1 0", "0 0 0"),
+        ("643 0 672 0 0 2 0 0", "0 0 0"),
+        ("643 0 672 0 24 2 3 1", "18 0 0"),
+        ("643 0 672 0 24 2 2 5", "18 1 0"),
+        ("643 0 672 0 24 2 0 0", "18 0 0"),
+    ] {
+        let shown = format!("14 0 2 0 0 {told} {fresh}");
+        assert!(of(head).starts_with(&shown), "{head}");
+    }
+    assert!(of("643 3 1 4294967295 1 0").starts_with("14 0 2 0 0 15 0 0 2 4294967295 "));
+    assert!(of("643 3 2 4 1 1 0").starts_with("14 0 2 0 0 14 0 0 2 3 4 "));
+    assert!(of("642 0 672 0 24 2 3 1").starts_with("14 13 0 14 0 14 0 0 "));
+    let line = answered("14 643 0 672 0 5 512 1 2 3\n");
+    let room = "4000000007 4000000007 4000000007";
+    assert!(line.starts_with(&format!("14 2 0 14 0 14 0 0 {room} ")));
+}
+
 #[test]
 fn what_is_no_case() {
     for (at, text) in [
@@ -193,6 +224,11 @@ fn what_is_no_case() {
         (1, "12 4097\n"),
         (1, "13 0 256\n"),
         (1, "14 643 0 672 0 0\n"),
+        (1, "14 673 0 672 0 0 0\n"),
+        (1, "14 643 0 672 0 4294967296 0\n"),
+        (1, "14 643 0 672 0 0 513\n"),
+        (1, "14 643 0 672 0 0 1 4294967296\n"),
+        (1, "15 0\n"),
     ] {
         assert_eq!(answers(text), Err(at), "{text:?}");
     }

@@ -15,6 +15,8 @@ mod jobs;
 mod printing;
 #[path = "bench/red.rs"]
 mod red;
+#[path = "bench/replays.rs"]
+mod replays;
 #[path = "bench/slow.rs"]
 mod slow;
 #[path = "bench/states.rs"]
@@ -68,6 +70,7 @@ fn main() -> ExitCode {
     // A copy draws for these lines, so that the table of the long run stays as it is.
     alike &= states::counts_k_64(&mut rng.clone());
     alike &= held::all(&mut rng.clone());
+    alike &= replays::all(&rng);
     alike &= printing::all();
     alike &= !slow || slow::long_run(&mut rng) && slow::clocks_end();
     match alike {

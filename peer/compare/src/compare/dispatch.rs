@@ -73,7 +73,7 @@ impl Call {
 /// The words of one state, lent to the first program and kept for the second.
 pub(super) struct Both {
     pub(super) first: Lent<u64>,
-    peer: Vec<u64>,
+    pub(super) peer: Vec<u64>,
 }
 
 impl Both {
@@ -85,7 +85,7 @@ impl Both {
     }
 
     /// Whether every word is the same, and nothing beside them was altered.
-    fn alike(&self) -> bool {
+    pub(super) fn alike(&self) -> bool {
         self.first.holds(&self.peer)
     }
 
@@ -110,7 +110,7 @@ impl Both {
     }
 
     /// The words that are not the same, and those altered beside them.
-    fn apart(&self) -> String {
+    pub(super) fn apart(&self) -> String {
         let words = self.first.words().iter().zip(&self.peer).enumerate();
         let apart = words.filter(|(_, (first, peer))| first != peer);
         let apart = apart.map(|(at, (first, peer))| {
@@ -131,7 +131,7 @@ pub(super) fn same_call(course: &mut Course, words: &[u64], call: Call) -> Compa
 }
 
 /// A saved state as a difference shows it.
-fn state_shown(words: &[u64]) -> String {
+pub(super) fn state_shown(words: &[u64]) -> String {
     let last = words.iter().rposition(|&word| word != 0);
     let to_last = &words[..last.map_or(0, |at| at + 1)];
     let (length, zeros) = (words.len(), words.len() - to_last.len());

@@ -6,6 +6,8 @@
 
 mod traced;
 
+pub(super) use traced::{stepped, Lengths};
+
 use peer::answer::{refusal, Answer};
 use peer::gen::{loaded_table, tiny_table};
 use peer::pattern::RED;
@@ -46,15 +48,15 @@ const TICKS: u32 = 1_000;
 
 /// What was looked at in all tables together.
 #[derive(Debug, Default)]
-struct Seen {
-    kept: Kept,
+pub(super) struct Seen {
+    pub(super) kept: Kept,
     /// Tables turned down, and admitted ones, with a deeply-red row whose even pattern
     /// is another.
-    red: [u32; 2],
+    pub(super) red: [u32; 2],
 }
 
 impl Seen {
-    fn add(&mut self, kept: Kept, rows: &[TaskRow]) {
+    pub(super) fn add(&mut self, kept: Kept, rows: &[TaskRow]) {
         self.kept.mandatory_jobs += kept.mandatory_jobs;
         self.kept.optional_jobs += kept.optional_jobs;
         self.kept.windows += kept.windows;
@@ -108,7 +110,7 @@ fn kept(
 
 /// To the first deadline of every row at least. A table turned down is run no
 /// further than that; an admitted one for whole cycles, or for some time.
-fn ticks_for(rows: &[TaskRow], verdict: Answer) -> u32 {
+pub(super) fn ticks_for(rows: &[TaskRow], verdict: Answer) -> u32 {
     let longest = rows.iter().map(|row| row.d).max().unwrap_or(0);
     if verdict.refusal == refusal::UNSCHEDULABLE {
         return longest;

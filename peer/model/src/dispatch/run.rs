@@ -26,11 +26,18 @@ fn fall(rows: &mut [Row], live: u32) -> (u32, u32) {
 }
 
 /// One tick on rows known to be well formed: release, choose, work, settle. The
-/// clock and the idle count are the caller's. Gives the row that was chosen.
+/// work of each released job is asked for, from the highest row down. The clock and
+/// the idle count are the caller's. Gives the row that was chosen.
 #[inline]
-fn one_tick(rows: &mut [Row], patterns: &[u64; ROWS_MAX], bits: &mut Bits) -> Option<usize> {
+pub(super) fn one_tick(
+    rows: &mut [Row],
+    patterns: &[u64; ROWS_MAX],
+    bits: &mut Bits,
+    mut work: impl FnMut(&Row) -> u32,
+) -> Option<usize> {
     for at in each(bits.due) {
-        let kind = release(&mut rows[at], patterns[at]);
+        let work = work(&rows[at]);
+        let kind = release(&mut rows[at], patterns[at], work);
         bits.enter(at, kind);
     }
     let chosen = bits.chosen();
@@ -67,7 +74,7 @@ pub fn run_watched(state: &mut State, n: u32, mut watch: impl FnMut(Option<usize
     let mut bits = Bits::of(rows);
     let mut idle = state.idle;
     for _ in 0..n {
-        let chosen = one_tick(rows, &patterns, &mut bits);
+        let chosen = one_tick(rows, &patterns, &mut bits, |row| row.c);
         idle += u32::from(chosen.is_none());
         watch(chosen);
     }

@@ -1,6 +1,6 @@
 //! The saved form of a state, and what is asked of it in that form.
 
-use super::{fresh, run, well_formed, Row, State};
+use super::{fresh, replay, run, well_formed, Replayed, Row, State};
 use crate::answer::{refusal, Answer};
 use crate::table::{ROWS_MAX, ROW_WORDS};
 
@@ -120,6 +120,18 @@ pub fn run_words(words: &mut [u64], n: u32) -> Answer {
         words.copy_from_slice(&to_words(&state));
     }
     answer
+}
+
+/// A replay on a saved state: refused, "the state is the one given".
+pub fn replay_words(words: &mut [u64], n: u32, log: &[u32]) -> Replayed {
+    let Some(mut state) = from_words(words) else {
+        return Replayed::refused(Answer::refused(refusal::STATE));
+    };
+    let replayed = replay(&mut state, n, log);
+    if replayed.answer.is_accepted() {
+        words.copy_from_slice(&to_words(&state));
+    }
+    replayed
 }
 
 /// One tick on a saved state, refused as a run of one is.

@@ -28,10 +28,11 @@ pub(super) fn patterns_of(rows: &[Row]) -> [u64; ROWS_MAX] {
 
 /// "Every row with wait 0 releases its next job with C work, D ticks to its
 /// deadline, and its kind from the pattern at its place. Its wait becomes T and
-/// its place goes up by one, from k - 1 to 0."
+/// its place goes up by one, from k - 1 to 0." A replay has other work "in place of
+/// C" (document 02, 5/14), so it is the caller's to name.
 #[inline]
-pub(super) fn release(row: &mut Row, pattern: u64) -> u32 {
-    row.work = row.c;
+pub(super) fn release(row: &mut Row, pattern: u64, work: u32) -> u32 {
+    row.work = work;
     row.left = row.d;
     row.kind = (pattern >> row.place & 1) as u32;
     row.wait = row.t;

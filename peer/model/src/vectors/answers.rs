@@ -1,7 +1,7 @@
 //! The answers to the stored cases, by the second program's own functions.
 
 use super::{line, BEFORE, BYTES_MAX, BYTE_BEFORE, BYTE_ROOM_MAX};
-use super::{COUNT_ROOM_MAX, ROOM_MAX, STATE_ROOM_MAX, WORDS_MAX};
+use super::{COUNT_ROOM_MAX, LOG_MAX, ROOM_MAX, STATE_ROOM_MAX, WORDS_MAX};
 use crate::answer::Answer;
 use crate::convert::{convert, Way};
 use crate::counts::{counts_words, held_words};
@@ -31,35 +31,48 @@ pub fn answer(case: &[u64]) -> Option<Vec<u64>> {
         [2, m, k] => push(&mut out, word(small(m)?, small(k)?)),
         [3, ref words @ ..] => push(&mut out, check(&table(words)?)),
         [4, room, ref words @ ..] => judged(&mut out, length(room, ROOM_MAX)?, &table(words)?),
-        [5, room, ref words @ ..] => {
-            let state = started(&mut out, room, words)?;
-            show_state(&mut out, &state);
-        }
-        [6, room, n, at, value, more, ref words @ ..] => {
-            let state = begun(&mut out, [room, n, at, value], words)?;
-            run_on(&mut out, state, small(more)?);
-        }
-        [7, room, n, at, value, row, counts, ref words @ ..] => {
-            let state = begun(&mut out, [room, n, at, value], words)?;
-            let room = wide_room(counts, COUNT_ROOM_MAX)?;
-            counted(&mut out, room, &state, small(row)?);
-        }
         [8, room, ref text @ ..] => read(&mut out, length(room, WORDS_MAX)?, &bytes(text)?),
         [9, room, ref words @ ..] => written(&mut out, byte_room(room)?, &table(words)?),
         [10, room, ref input @ ..] => printed(&mut out, byte_room(room)?, &bytes(input)?),
-        [11, room, n, at, value, row, ref words @ ..] => {
-            let state = begun(&mut out, [room, n, at, value], words)?;
-            push(&mut out, held_words(&state, small(row)?));
-        }
         [12, room, ref text @ ..] => {
             carried(&mut out, byte_room(room)?, Way::ToNew, &bytes(text)?);
         }
         [13, room, ref text @ ..] => {
             carried(&mut out, byte_room(room)?, Way::ToOld, &bytes(text)?);
         }
-        _ => return None,
+        _ => on_state(&mut out, case)?,
     }
     Some(out)
+}
+
+/// The operations on a saved state.
+fn on_state(out: &mut Vec<u64>, case: &[u64]) -> Option<()> {
+    match *case {
+        [5, room, ref words @ ..] => {
+            let state = started(out, room, words)?;
+            show_state(out, &state);
+        }
+        [6, room, n, at, value, more, ref words @ ..] => {
+            let state = begun(out, [room, n, at, value], words)?;
+            run_on(out, state, small(more)?);
+        }
+        [7, room, n, at, value, row, counts, ref words @ ..] => {
+            let state = begun(out, [room, n, at, value], words)?;
+            let room = wide_room(counts, COUNT_ROOM_MAX)?;
+            counted(out, room, &state, small(row)?);
+        }
+        [11, room, n, at, value, row, ref words @ ..] => {
+            let state = begun(out, [room, n, at, value], words)?;
+            push(out, held_words(&state, small(row)?));
+        }
+        [14, room, n, at, value, more, count, ref rest @ ..] => {
+            let (log, words) = rest.split_at(length(count, LOG_MAX)?.min(rest.len()));
+            let state = begun(out, [room, n, at, value], words)?;
+            replayed(out, state, small(more)?, &numbers(log)?);
+        }
+        _ => return None,
+    }
+    Some(())
 }
 
 fn push(out: &mut Vec<u64>, answer: Answer) {
@@ -74,9 +87,13 @@ fn length(number: u64, most: usize) -> Option<usize> {
     usize::try_from(number).ok().filter(|asked| *asked <= most)
 }
 
+fn numbers(words: &[u64]) -> Option<Vec<u32>> {
+    words.iter().map(|&word| small(word)).collect()
+}
+
 fn table(words: &[u64]) -> Option<Vec<u32>> {
     let fits = words.len() <= WORDS_MAX;
-    fits.then(|| words.iter().map(|&word| small(word)).collect())?
+    fits.then(|| numbers(words))?
 }
 
 fn bytes(numbers: &[u64]) -> Option<Vec<u8>> {
@@ -159,6 +176,14 @@ fn run_on(out: &mut Vec<u64>, mut state: Vec<u64>, more: u32) {
     push(out, dispatch::well_formed_words(&state));
     push(out, dispatch::tick_words(&mut state));
     push(out, dispatch::run_words(&mut state, more));
+    show_state(out, &state);
+}
+
+/// A replay of more ticks, and the state after it.
+fn replayed(out: &mut Vec<u64>, mut state: Vec<u64>, more: u32, log: &[u32]) {
+    let replayed = dispatch::replay_words(&mut state, more, log);
+    push(out, replayed.answer);
+    out.push(replayed.used);
     show_state(out, &state);
 }
 

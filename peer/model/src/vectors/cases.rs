@@ -5,6 +5,7 @@
 mod carried;
 mod counts;
 mod red;
+mod replays;
 mod states;
 mod tables;
 mod texts;
@@ -16,6 +17,7 @@ use crate::rng::Rng;
 use crate::table::{ROW_WORDS, WORD_MAX};
 use carried::{to_new, to_old};
 use counts::{counts, held};
+use replays::replays;
 use states::{runs, starts};
 use tables::{checks, verdicts};
 use texts::{readings, reports, writings};
@@ -54,7 +56,7 @@ const EDGES: [u32; 12] = [
 pub fn cases() -> String {
     let parts = [
         jobs, pairs, checks, verdicts, starts, runs, counts, readings, writings, reports, held,
-        to_new, to_old,
+        to_new, to_old, replays,
     ];
     let written = parts.iter().zip(1..).map(|(part, seed)| {
         let mut cases = Cases::new(seed);

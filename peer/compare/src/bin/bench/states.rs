@@ -22,7 +22,7 @@ pub fn underway(rng: &mut Rng, rows: usize) -> Vec<Saved> {
     underway_of(&busy_tables(rng, rows))
 }
 
-fn underway_of(tables: &[Vec<u32>]) -> Vec<Saved> {
+pub fn underway_of(tables: &[Vec<u32>]) -> Vec<Saved> {
     let mut states = begun(tables);
     for state in &mut states {
         ffi::run(state, TICKS);

@@ -3,25 +3,42 @@
 use peer::answer::Answer;
 use peer::dispatch::{from_words, Row, State, STATE_WORDS};
 use peer::promise::Trace;
+use peer::table::ROWS_MAX;
 
 use super::super::held::kept_true;
 use crate::course::shown;
 use crate::ffi;
 
+/// The work of the job that each row releases, if it releases one.
+pub type Lengths = [u32; ROWS_MAX];
+
 /// The first program's dispatcher from fresh: the row that was given each tick,
 /// and the last state. In every state the number of met marks must be that of the
 /// window; of an admitted table every state is looked at further.
 pub fn traced(words: &[u32], ticks: u32, admitted: bool) -> Result<Trace, String> {
+    stepped(words, ticks, admitted, |before, saved| {
+        (ffi::tick(saved), before.row.map(|row| row.c))
+    })
+}
+
+/// The same where each tick is made by `step`, from the state before it, which says as
+/// well what the work of the jobs released in it was.
+pub fn stepped(
+    words: &[u32],
+    ticks: u32,
+    admitted: bool,
+    mut step: impl FnMut(&State, &mut [u64; STATE_WORDS]) -> (Answer, Lengths),
+) -> Result<Trace, String> {
     let mut saved = [0; STATE_WORDS];
     let answer = ffi::fresh(words, &mut saved);
     let mut state = read(answer, &saved)?;
     let mut chosen = Vec::with_capacity(ticks as usize);
     for tick in 0..ticks {
-        let answer = ffi::tick(&mut saved);
+        let (answer, lengths) = step(&state, &mut saved);
         let after = read(answer, &saved)?;
         let at_tick = |fault| format!("tick {tick}: {fault}");
         kept_true(&saved).map_err(at_tick)?;
-        chosen.push(given(&state, &after).map_err(at_tick)?);
+        chosen.push(given(&state, &after, &lengths).map_err(at_tick)?);
         if admitted {
             unbroken(&after).map_err(at_tick)?;
         }
@@ -48,10 +65,10 @@ enum Change {
 }
 
 /// The change, from the counts and the work left before and after. The job at
-/// work is the one live before, or the one that wait 0 releases.
-fn change(before: &Row, after: &Row) -> Option<Change> {
+/// work is the one live before, or the one of this length that wait 0 releases.
+fn change(before: &Row, after: &Row, length: u32) -> Option<Change> {
     let work = if before.wait == 0 {
-        before.c
+        length
     } else {
         before.work
     };
@@ -73,14 +90,14 @@ fn change(before: &Row, after: &Row) -> Option<Change> {
 ///
 /// Where no unit is seen lost and the tick was not idle, it went to a job that
 /// was dropped. Which of them does not matter: it is missed all the same.
-fn given(before: &State, after: &State) -> Result<Option<usize>, String> {
+fn given(before: &State, after: &State, lengths: &Lengths) -> Result<Option<usize>, String> {
     if after.time.checked_sub(before.time) != Some(1) {
         return Err(format!("time {} after time {}", after.time, before.time));
     }
     let (mut worked, mut dropped) = (Vec::new(), Vec::new());
     let rows = before.row.iter().zip(&after.row).enumerate();
     for (at, (before, after)) in rows.take(before.rows as usize) {
-        match change(before, after) {
+        match change(before, after, lengths[at]) {
             Some(Change::Worked) => worked.push(at),
             Some(Change::Dropped) => dropped.push(at),
             Some(Change::Rested) => (),

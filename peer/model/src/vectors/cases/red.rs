@@ -58,7 +58,7 @@ const PAIRS: [(u32, u32); 12] = [
 
 /// Three rows, each of a pair (m,k) whose two patterns are apart; a bit of `patterns`
 /// for the p of each, bit 0 for row 0.
-fn mixed(patterns: u32) -> Vec<u32> {
+pub(super) fn mixed(patterns: u32) -> Vec<u32> {
     let p = |row: u32| patterns >> row & 1;
     [
         [21, 2, 4, 4, 2, 4, p(0)],
