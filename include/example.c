@@ -1,7 +1,8 @@
 /*
  * A music stand in small: read the task text, ask for the verdict, run a second of ticks as a timer interrupt would, look at the
  * counts and at the pattern of a deeply-red row; save the state on the way and go on from the saved words; carry an old text over and
- * back; meet five refusals.
+ * back; meet five refusals. Then document 01's table with measured job lengths: replay a log whole, short of numbers and in pieces, and
+ * meet the refusals of that.
  *
  *     include/run
  */
@@ -32,14 +33,43 @@ static const char old_text[] =
     "id=1\nc=1\nt=5\nd=2\nm=1\nk=1\n"
     "id=2\nc=6\nt=20\nd=20\nm=2\nk=3\n";
 
+/* Document 01's table, whose response times are 2 and 6. */
+static const uint32_t small_table[] = {
+    11, 2, 4, 4, 1, 2, GP_EVEN,
+    12, 4, 6, 6, 2, 3, GP_EVEN
+};
+
+enum { TICKS = 24, NUMBERS = 10 };
+
+/* How long the jobs of its first 24 ticks took, in order of release: of row 0 at most 2, of row 1 at most 4. */
+static const uint32_t measured[NUMBERS] = {
+    1, 4,  /* tick 0, both rows */
+    2,     /* tick 4, row 0: an optional job; it has one tick before row 1's next job comes, and is missed */
+    3,     /* tick 6, row 1 */
+    2,     /* tick 8, row 0 */
+    1, 4,  /* tick 12, both rows: two optional jobs, and both are met */
+    1,     /* tick 16, row 0 */
+    2,     /* tick 18, row 1 */
+    2      /* tick 20, row 0; ticks 22 and 23 are idle */
+};
+
+/* The same jobs at full length: what a run takes them to be. */
+static const uint32_t full_length[NUMBERS] = {2, 4, 2, 4, 2, 2, 4, 2, 4, 2};
+
 enum { SCREEN = 2, RADIO = 3 };
 static const char *const names[] = {"pedal scan", "tuner", "screen", "radio slot"};
+
+/* The words of a row behind its table, from GP_WAIT on. */
+static const char *const words[] = {"wait", "place", "work", "left", "kind", "window", "released", "mm", "mx", "om", "ox", "broken",
+                                    "held"};
 
 /* Firmware would keep these in place too: nothing here is allocated. */
 static uint32_t table[GP_TABLE_WORDS];
 static uint32_t responses[GP_ROWS_MAX];
 static uint64_t state[GP_STATE_WORDS];
 static uint64_t saved[GP_STATE_WORDS];
+static uint64_t whole_state[GP_STATE_WORDS];
+static uint32_t spoilt[NUMBERS];
 static uint8_t written[GP_TEXT_BYTES];
 static uint8_t old_written[GP_OLD_TEXT_BYTES];
 
@@ -183,6 +213,180 @@ static void show_not_old(void)
     printf("\n");
 }
 
+static void lay_small(void)
+{
+    wanted("fresh", gp_fresh(small_table, sizeof small_table / sizeof *small_table, state, GP_STATE_WORDS));
+}
+
+static const char *held_against(const uint64_t *other)
+{
+    return memcmp(state, other, sizeof state) == 0 ? "the same state" : "another state";
+}
+
+/* Of a refused replay `used` is 0, and not shown. */
+static void show_replayed(struct gp_replayed answer)
+{
+    if (answer.refusal == GP_ACCEPTED)
+        printf("ticks=%" PRIu64, answer.value);
+    else
+        printf("refused=%" PRIu64 " at=%" PRIu64, answer.refusal, answer.value);
+    if (answer.refusal == GP_ACCEPTED || answer.used != 0)
+        printf(" used=%" PRIu64, answer.used);
+}
+
+/* All of a state but its table and its time. */
+static void show_state(void)
+{
+    printf(", idle=%" PRIu64 "\n", state[GP_IDLE]);
+    for (uint32_t row = 0; row < state[GP_ROWS]; row++) {
+        printf("  row %" PRIu32 ":", row);
+        for (int field = GP_WAIT; field <= GP_HELD; field++)
+            printf(" %s=%" PRIu64, words[field - GP_WAIT], state[GP_WORD_AT(row, field)]);
+        printf("\n");
+    }
+}
+
+/* The log from fresh, the whole of it or as many numbers as have come. */
+static struct gp_replayed replay_numbers(size_t length)
+{
+    lay_small();
+    struct gp_replayed answer = gp_replay(state, GP_STATE_WORDS, TICKS, measured, length);
+    printf("replay of %zu numbers: ", length);
+    show_replayed(answer);
+    show_state();
+    return answer;
+}
+
+/* With four numbers the replay stops before tick 8, a job of row 1 under way. When the others have come it goes on from there. */
+static void replay_pieces(void)
+{
+    replay_numbers(NUMBERS);
+    memcpy(whole_state, state, sizeof whole_state);
+    struct gp_replayed first = replay_numbers(4);
+    uint32_t ticks_left = TICKS - (uint32_t)first.value;
+    printf("gone on with the others: ");
+    show_replayed(gp_replay(state, GP_STATE_WORDS, ticks_left, measured + first.used, NUMBERS - first.used));
+    printf(", %s\n", held_against(whole_state));
+}
+
+/* The log with another number at one place. */
+static void spoil(size_t place, uint32_t number)
+{
+    memcpy(spoilt, measured, sizeof spoilt);
+    spoilt[place] = number;
+    printf("%" PRIu32 " at place %zu", number, place);
+}
+
+/* Tick 12 releases a job of each row. With six numbers one is left for it, so the replay stops there and does not look at that one. */
+static void replay_six(void)
+{
+    replay_numbers(6);
+    memcpy(saved, state, sizeof saved);
+    spoil(5, 9);
+    lay_small();
+    printf(" of 6 numbers: ");
+    show_replayed(gp_replay(state, GP_STATE_WORDS, TICKS, spoilt, 6));
+    printf(", %s\n", held_against(saved));
+}
+
+static void replay_full_length(void)
+{
+    lay_small();
+    wanted("run", gp_run(state, GP_STATE_WORDS, TICKS));
+    memcpy(saved, state, sizeof saved);
+    lay_small();
+    printf("replay of full-length jobs, and a run: ");
+    show_replayed(gp_replay(state, GP_STATE_WORDS, TICKS, full_length, NUMBERS));
+    printf(", %s\n", held_against(saved));
+}
+
+/* The part of a log that has not come yet. Here it is in an array; in a firmware, in a flash or on a wire. */
+static const uint32_t *to_come;
+static size_t to_come_length;
+
+/* The next numbers of the log, at most so many: how many came, 0 at its end. */
+static size_t next_numbers(uint32_t *room, size_t most)
+{
+    size_t came = to_come_length < most ? to_come_length : most;
+    memcpy(room, to_come, came * sizeof *room);
+    to_come += came;
+    to_come_length -= came;
+    return came;
+}
+
+/* So few only to have several chunks here: every call looks at the state and copies it twice. */
+enum { CHUNK = 3 };
+
+/* A chunk, behind the numbers that the one before left: fewer than a tick releases jobs, so fewer than there are rows. */
+static uint32_t numbers[GP_ROWS_MAX - 1 + CHUNK];
+
+/* At most n ticks with a log that comes in chunks. Ticks, numbers and the place of a number out of range are those of the whole log. */
+static struct gp_replayed replay_log(uint32_t n)
+{
+    struct gp_replayed whole = {GP_ACCEPTED, 0, 0};
+    size_t left = 0, came;
+    do {
+        came = next_numbers(numbers + left, CHUNK);
+        struct gp_replayed piece = gp_replay(state, GP_STATE_WORDS, n - (uint32_t)whole.value, numbers, left + came);
+        if (piece.refusal != GP_ACCEPTED) {
+            if (piece.refusal == GP_LOG)
+                piece.value += whole.used;
+            return piece;
+        }
+        whole.value += piece.value;
+        whole.used += piece.used;
+        left += came - piece.used;
+        memmove(numbers, numbers + piece.used, left * sizeof *numbers);
+    } while (came > 0 && whole.value < n);
+    return whole;
+}
+
+static void replay_in_chunks(const uint32_t *log)
+{
+    lay_small();
+    to_come = log;
+    to_come_length = NUMBERS;
+    show_replayed(replay_log(TICKS));
+}
+
+/* The whole log, then one with a number out of range in its third chunk. That chunk is refused; the two before it are done. */
+static void replay_chunks(void)
+{
+    printf("replay in chunks of %d: ", CHUNK);
+    replay_in_chunks(measured);
+    printf(", %s\n", held_against(whole_state));
+    spoil(7, 3);
+    printf(" in chunks of %d: ", CHUNK);
+    replay_in_chunks(spoilt);
+    printf(", the state of ticks=%" PRIu64 "\n", state[GP_TIME]);
+}
+
+/* Where a replay is refused, no word of the state is another. */
+static void show_refused(uint32_t n)
+{
+    memcpy(saved, state, sizeof saved);
+    show_replayed(gp_replay(state, GP_STATE_WORDS, n, spoilt, NUMBERS));
+    printf(", %s\n", held_against(saved));
+}
+
+/* C of row 1 is 4. The clock's end comes before the log, which is looked at where the ticks are one fewer. */
+static void show_log_refusals(void)
+{
+    lay_small();
+    spoil(1, 5);
+    printf(": ");
+    show_refused(TICKS);
+    spoil(2, 0);
+    printf(": ");
+    show_refused(TICKS);
+    state[GP_TIME] = GP_CLOCK_END - TICKS + 1;
+    for (uint32_t n = TICKS; n >= TICKS - 1; n--) {
+        spoil(0, 0);
+        printf(" in %" PRIu32 " ticks, %d before the clock's end: ", n, TICKS - 1);
+        show_refused(n);
+    }
+}
+
 int main(void)
 {
     size_t rows = read_table();
@@ -196,5 +400,10 @@ int main(void)
     show_screen(rows, 2);
     carry_old();
     show_not_old();
+    replay_pieces();
+    replay_six();
+    replay_full_length();
+    replay_chunks();
+    show_log_refusals();
     return EXIT_SUCCESS;
 }

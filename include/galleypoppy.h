@@ -3,21 +3,23 @@
  *
  * The functions of `crates/stand_c`, built into `target/staticlib/libstand_c.a` by `rt staticlib stand_c` for x86-64 Linux (the
  * System V calling convention, a 64-bit size_t). Each of them is proved to give the answer that document 01 names (spare: document 02,
- * 1/14; the stored number of met marks: 2/14; the two patterns: 3/14; old texts carried over and back: 4/14), on every input, provided
- * that the caller keeps to "What a caller owes" below and the compiler's back end is right.
+ * 1/14; the stored number of met marks: 2/14; the two patterns: 3/14; old texts carried over and back: 4/14; a replay with measured
+ * job lengths: 5/14), on every input, provided that the caller keeps to "What a caller owes" below and the compiler's back end is
+ * right.
  *
  * What the functions do not do: allocate, keep anything between calls, read or write anything but the lent runs, stop or jump out.
  * They can be called at the same time on different runs. The archive has no writable data, and the only outside symbols it asks for
  * are memcpy and memset.
  *
- * Stack, measured at 32 rows: gp_job, gp_word, gp_tick and gp_run lay the pattern book there, 17,096 bytes in all; gp_report also
- * holds a table, a state and what it prints, 28,648 bytes; gp_to_old 4,472, gp_to_new 3,544, gp_write 1,688, gp_read 1,288,
- * gp_verdict 624; gp_check, gp_fresh, gp_well, gp_counts and gp_held under 150.
+ * Stack, measured at 32 rows: gp_job, gp_word, gp_tick and gp_run lay the pattern book there, 17,368 bytes in all; gp_replay also a
+ * copy of the state, 22,488 bytes; gp_report also holds a table, a state and what it prints, 28,920 bytes; gp_to_old 4,472, gp_to_new
+ * 3,544, gp_write 1,688, gp_read 1,288, gp_verdict 624; gp_check, gp_fresh, gp_well, gp_counts and gp_held under 150.
  *
- * Answers. Every function hands back two numbers. Where `refusal` is 0, the call was accepted and `value` is its answer. Otherwise
- * `refusal` is a number of documents 01 and 02 (enum gp_refusal), and `value` is the row or the place that goes with it, 0 where there
- * is none. If several refusals apply, the first in the order that stands at the function is given. A refused call alters nothing that
- * was lent. An accepted call alters only what its comment says; a room may be longer than needed, and its rest stays as it was.
+ * Answers. Every function hands back two numbers, gp_replay a third behind them. Where `refusal` is 0, the call was accepted and
+ * `value` is its answer. Otherwise `refusal` is a number of documents 01 and 02 (enum gp_refusal), and `value` is the row or the place
+ * that goes with it, 0 where there is none. If several refusals apply, the first in the order that stands at the function is given. A
+ * refused call alters nothing that was lent. An accepted call alters only what its comment says; a room may be longer than needed, and
+ * its rest stays as it was.
  *
  * Runs. A lent run of words or bytes is passed as a pointer and then its length: how many words, or how many bytes where it is bytes.
  * An empty run is a pointer that is aligned and not null, with length 0: any object of the type will do. NULL is never allowed.
@@ -27,7 +29,7 @@
  *     of it initialised, and for a run that is not const also writable; the whole run at most PTRDIFF_MAX bytes
  *   - the length is the true one, or less
  *   - the runs of one call do not overlap where one of them is not const, even where the types are the same (the room of gp_counts
- *     is no part of its state; a text is not carried over or back in its own place)
+ *     is no part of its state; a text is not carried over or back in its own place; the log of gp_replay is no part of its state)
  *   - no other thread and no interrupt writes a lent run during the call, nor reads one that is not const
  *   - what is linked is the archive that this header came with.
  */
@@ -84,13 +86,21 @@ enum gp_refusal {
     GP_STATE = 14,          /* state not well formed; 0 */
     GP_CLOCK = 15,          /* time + n past the clock's end; 0 */
     GP_P_RANGE = 16,        /* p above 1; row. It comes after 9 and before 10 */
-    GP_NOT_OLD = 17         /* a row that the old form of a text cannot say: p is 1; first such row. It comes before 13 */
+    GP_NOT_OLD = 17,        /* a row that the old form of a text cannot say: p is 1; first such row. It comes before 13 */
+    GP_LOG = 18             /* a number of a log outside 1..C of the row whose job it is for; its place in the log, from 0 */
 };
 
-/* Every answer. The name of the type is the header's; its layout is the archive's. */
+/* Every answer but that of gp_replay. The name of the type is the header's; its layout is the archive's. */
 struct gp_answer {
     uint64_t refusal;
     uint64_t value;
+};
+
+/* The answer of gp_replay. The name of the type is the header's; its layout is the archive's. */
+struct gp_replayed {
+    uint64_t refusal;
+    uint64_t value;  /* ticks done; where it is refused, what goes with the refusal */
+    uint64_t used;   /* numbers of the log used, from its start; 0 where it is refused */
 };
 
 /* The patterns that p of a row names. */
@@ -192,7 +202,8 @@ struct gp_answer gp_fresh(const uint32_t *table, size_t table_length, uint64_t *
 
 /*
  * Whether words are a well-formed state: the length is GP_STATE_WORDS, the words are as documents 01 and 02 ask, and GP_HELD of each
- * row is the number of met marks in its window. Value: 0. A state that gp_fresh laid and only gp_tick and gp_run altered is well formed.
+ * row is the number of met marks in its window. Value: 0. A state that gp_fresh laid and only gp_tick, gp_run and gp_replay altered is
+ * well formed.
  * Refusals: 14.
  */
 struct gp_answer gp_well(const uint64_t *state, size_t state_length);
@@ -209,6 +220,27 @@ struct gp_answer gp_tick(uint64_t *state, size_t state_length);
  * Refusals: 14, 15.
  */
 struct gp_answer gp_run(uint64_t *state, size_t state_length, uint32_t n);
+
+/*
+ * A replay: at most n ticks with the lengths of a log in place of C. The log says how long each job really took: one number for each
+ * job that is released, in order of release (by tick, then by row), each 1 to C of its row. The replay stops before the first tick that
+ * releases more jobs than the log has left, or after n ticks; a tick that releases none needs no number, so it is done also where the
+ * log is empty or used up. Value: the ticks done; `used`: the numbers used. The state is so many ticks later. Numbers that no release
+ * before the stop would use are not looked at.
+ *
+ * A replay can be made in pieces. After a stop, when more numbers have come, go on from log + used with n - value ticks: the state is
+ * then that of one replay of the whole log. Where every number is the C of its row, the state is that of gp_run over the same ticks.
+ *
+ * From the fresh state of a table that gp_verdict admits, whatever the numbers of an accepted replay are: every mandatory job whose
+ * deadline has come finished by it, none took longer than its row's response time (job 0 may take less, where jobs are shorter than
+ * C), and any k consecutive jobs of a task whose deadlines have all come include at least m finished in time.
+ *
+ * Where it is refused, `used` is 0 and no word of the state is altered, however late in the log the number stands: the replay is made
+ * on a copy of the state, which is laid back at the end. That is two copies of GP_STATE_WORDS words a call, and nothing a tick.
+ * Refusals: 14; 15 by n, also where the log would stop the replay sooner; then 18, with the place of the first number out of range that
+ * a release before the stop would use.
+ */
+struct gp_replayed gp_replay(uint64_t *state, size_t state_length, uint32_t n, const uint32_t *log, size_t log_length);
 
 /*
  * The counts of one row of a state, in the first GP_COUNT_WORDS words of the room (enum gp_count). Value: 0.

@@ -1,10 +1,10 @@
 //! A music stand in small: read the task text, ask for the verdict, run a second of ticks as a timer interrupt would, look at the
 //! counts and at the pattern of a deeply-red row; save the state on the way and go on from the saved words; carry an old text over
-//! and back; meet five refusals. It prints what `include/example.c` prints.
+//! and back; meet five refusals. Then document 01's table with measured job lengths: replay a log whole, short of numbers and in
+//! pieces, and meet the refusals of that. It prints what `include/example.c` prints.
 
-use galleypoppy::{
-    job, read, to_new, to_old, verdict, write, Field, Kind, Pattern, Refusal, State,
-};
+use galleypoppy::{job, read, to_new, to_old, verdict, write};
+use galleypoppy::{Field, Kind, Pattern, Refusal, Replayed, State};
 use galleypoppy::{OLD_TEXT_BYTES, ROWS_MAX, STATE_WORDS, TABLE_WORDS, TASK_WORDS, TEXT_BYTES};
 
 const SECOND: u32 = 1000;
@@ -25,6 +25,39 @@ const TEXT: &[u8] = b"rows=4\n\
 const OLD_TEXT: &[u8] = b"rows=2\n\
     id=1\nc=1\nt=5\nd=2\nm=1\nk=1\n\
     id=2\nc=6\nt=20\nd=20\nm=2\nk=3\n";
+
+/// Document 01's table, whose response times are 2 and 6.
+const SMALL: [u32; 14] = [11, 2, 4, 4, 1, 2, 0, 12, 4, 6, 6, 2, 3, 0];
+
+const TICKS: u32 = 24;
+
+/// How long the jobs of its first 24 ticks took, in order of release: of row 0 at most 2, of row 1 at most 4. Ticks 0 and 12
+/// release a job of each row, ticks 4, 8, 16 and 20 one of row 0, ticks 6 and 18 one of row 1.
+const MEASURED: [u32; 10] = [1, 4, 2, 3, 2, 1, 4, 1, 2, 2];
+
+/// The same jobs at full length: what a run takes them to be.
+const FULL_LENGTH: [u32; 10] = [2, 4, 2, 4, 2, 2, 4, 2, 4, 2];
+
+/// How many numbers of a log come at a time. So few only to have several chunks here: every call looks at the state and copies it
+/// twice.
+const CHUNK: usize = 3;
+
+/// The words of a row behind its table.
+const WORDS: [(&str, Field); 13] = [
+    ("wait", Field::Wait),
+    ("place", Field::Place),
+    ("work", Field::Work),
+    ("left", Field::Left),
+    ("kind", Field::Kind),
+    ("window", Field::Window),
+    ("released", Field::Released),
+    ("mm", Field::Mm),
+    ("mx", Field::Mx),
+    ("om", Field::Om),
+    ("ox", Field::Ox),
+    ("broken", Field::Broken),
+    ("held", Field::Held),
+];
 
 const SCREEN: usize = 2;
 const RADIO: usize = 3;
@@ -132,13 +165,17 @@ fn restore(words: &[u64], state: &State) -> Result<(), Refusal> {
         radio(Field::Window)
     );
     restored.run(SECOND - SAVED_AT)?;
-    let same = if restored == *state {
+    let same = against(&restored, state);
+    println!("restored and run: ticks={}, {same}", restored.time());
+    Ok(())
+}
+
+fn against(state: &State, other: &State) -> &'static str {
+    if state == other {
         "the same state"
     } else {
         "another state"
-    };
-    println!("restored and run: ticks={}, {same}", restored.time());
-    Ok(())
+    }
 }
 
 /// A state of an earlier version is known by its length, so its words are never taken for others.
@@ -211,6 +248,138 @@ fn show_not_old() {
     }
 }
 
+fn show_replayed(answer: Result<Replayed, Refusal>) {
+    match answer {
+        Ok(Replayed { ticks, used }) => print!("ticks={ticks} used={used}"),
+        Err(Refusal::Log(place)) => print!("refused=18 at={place}"),
+        Err(refusal) => print!("refused={} at=0", refusal.number()),
+    }
+}
+
+/// All of a state but its table and its time.
+fn show_state(state: &State) {
+    println!(", idle={}", state.idle());
+    for row in 0..state.rows() {
+        print!("  row {row}:");
+        for (name, field) in WORDS {
+            print!(" {name}={}", state.word(row, field).unwrap_or_default());
+        }
+        println!();
+    }
+}
+
+/// The log from fresh, the whole of it or as many numbers as have come.
+fn replay_numbers(length: usize) -> Result<(State, Replayed), Refusal> {
+    let mut state = State::fresh(&SMALL)?;
+    let answer = state.replay(TICKS, &MEASURED[..length]);
+    print!("replay of {length} numbers: ");
+    show_replayed(answer);
+    show_state(&state);
+    Ok((state, answer?))
+}
+
+/// With four numbers the replay stops before tick 8, a job of row 1 under way. When the others have come it goes on from there.
+fn replay_pieces() -> Result<State, Refusal> {
+    let (whole, _) = replay_numbers(MEASURED.len())?;
+    let (mut state, first) = replay_numbers(4)?;
+    print!("gone on with the others: ");
+    show_replayed(state.replay(TICKS - first.ticks, &MEASURED[first.used..]));
+    println!(", {}", against(&state, &whole));
+    Ok(whole)
+}
+
+/// The log with another number at one place.
+fn spoilt(place: usize, number: u32) -> [u32; MEASURED.len()] {
+    let mut log = MEASURED;
+    log[place] = number;
+    print!("{number} at place {place}");
+    log
+}
+
+/// Tick 12 releases a job of each row. With six numbers one is left for it, so the replay stops there and does not look at that one.
+fn replay_six() -> Result<(), Refusal> {
+    let (stopped, _) = replay_numbers(6)?;
+    let mut state = State::fresh(&SMALL)?;
+    let log = spoilt(5, 9);
+    print!(" of 6 numbers: ");
+    show_replayed(state.replay(TICKS, &log[..6]));
+    println!(", {}", against(&state, &stopped));
+    Ok(())
+}
+
+fn replay_full_length() -> Result<(), Refusal> {
+    let mut run = State::fresh(&SMALL)?;
+    run.run(TICKS)?;
+    let mut state = State::fresh(&SMALL)?;
+    print!("replay of full-length jobs, and a run: ");
+    show_replayed(state.replay(TICKS, &FULL_LENGTH));
+    println!(", {}", against(&state, &run));
+    Ok(())
+}
+
+/// At most n ticks with a log that comes in chunks. Ticks, numbers and the place of a number out of range are those of the whole
+/// log. What a chunk leaves, fewer numbers than there are rows, is put before the next.
+fn replay_log(state: &mut State, n: u32, log: &[u32]) -> Result<Replayed, Refusal> {
+    let mut whole = Replayed::default();
+    let mut chunks = log.chunks(CHUNK);
+    let mut numbers = Vec::new();
+    loop {
+        let came = chunks.next().unwrap_or_default();
+        numbers.extend_from_slice(came);
+        let piece = match state.replay(n - whole.ticks, &numbers) {
+            Err(Refusal::Log(place)) => Err(Refusal::Log(place + whole.used as u64)),
+            answer => answer,
+        }?;
+        whole.ticks += piece.ticks;
+        whole.used += piece.used;
+        numbers.drain(..piece.used);
+        if came.is_empty() || whole.ticks == n {
+            return Ok(whole);
+        }
+    }
+}
+
+/// The whole log, then one with a number out of range in its third chunk. That chunk is refused; the two before it are done.
+fn replay_chunks(whole: &State) -> Result<(), Refusal> {
+    let mut state = State::fresh(&SMALL)?;
+    print!("replay in chunks of {CHUNK}: ");
+    show_replayed(replay_log(&mut state, TICKS, &MEASURED));
+    println!(", {}", against(&state, whole));
+    let mut state = State::fresh(&SMALL)?;
+    let log = spoilt(7, 3);
+    print!(" in chunks of {CHUNK}: ");
+    show_replayed(replay_log(&mut state, TICKS, &log));
+    println!(", the state of ticks={}", state.time());
+    Ok(())
+}
+
+/// Where a replay is refused, no word of the state is another.
+fn show_refused(state: &mut State, n: u32, log: &[u32]) {
+    let before = state.clone();
+    show_replayed(state.replay(n, log));
+    println!(", {}", against(state, &before));
+}
+
+/// C of row 1 is 4. The clock's end comes before the log, which is looked at where the ticks are one fewer.
+fn show_log_refusals() -> Result<(), Refusal> {
+    let mut state = State::fresh(&SMALL)?;
+    for (place, number) in [(1, 5), (2, 0)] {
+        let log = spoilt(place, number);
+        print!(": ");
+        show_refused(&mut state, TICKS, &log);
+    }
+    let mut words = *state.words();
+    words[1] = u64::from(u32::MAX - TICKS + 1);
+    let mut state = State::restore(&words)?;
+    for n in [TICKS, TICKS - 1] {
+        let log = spoilt(0, 0);
+        let end = TICKS - 1;
+        print!(" in {n} ticks, {end} before the clock's end: ");
+        show_refused(&mut state, n, &log);
+    }
+    Ok(())
+}
+
 fn main() -> Result<(), Refusal> {
     let mut room = [0; TABLE_WORDS];
     let table = read_table(&mut room)?;
@@ -225,5 +394,9 @@ fn main() -> Result<(), Refusal> {
     show_screen(&mut room[..words], 2);
     carry_old()?;
     show_not_old();
-    Ok(())
+    let whole = replay_pieces()?;
+    replay_six()?;
+    replay_full_length()?;
+    replay_chunks(&whole)?;
+    show_log_refusals()
 }

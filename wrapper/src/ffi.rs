@@ -22,6 +22,24 @@ impl Answer {
     }
 }
 
+/// A replay's answer as the archive hands it back, by value.
+#[repr(C)]
+struct Progress {
+    refusal: u64,
+    value: u64,
+    used: u64,
+}
+
+impl Progress {
+    /// Ticks done and numbers used.
+    fn taken(self) -> Result<(u64, u64), Refusal> {
+        match self.refusal {
+            0 => Ok((self.value, self.used)),
+            number => Err(Refusal::numbered(number, self.value)),
+        }
+    }
+}
+
 // SAFETY: these are the archive's functions with the types that they are exported with (include/galleypoppy.h). Those marked safe
 // take and give numbers only.
 unsafe extern "C" {
@@ -43,6 +61,13 @@ unsafe extern "C" {
     fn gp_well(state: *const u64, state_length: usize) -> Answer;
     fn gp_tick(state: *mut u64, state_length: usize) -> Answer;
     fn gp_run(state: *mut u64, state_length: usize, n: u32) -> Answer;
+    fn gp_replay(
+        state: *mut u64,
+        state_length: usize,
+        n: u32,
+        log: *const u32,
+        log_length: usize,
+    ) -> Progress;
     fn gp_counts(
         state: *const u64,
         state_length: usize,
@@ -104,6 +129,11 @@ pub fn tick(state: &mut [u64]) -> Result<u64, Refusal> {
 pub fn run(state: &mut [u64], n: u32) -> Result<u64, Refusal> {
     // SAFETY: the state is a slice, borrowed mutably for the call.
     unsafe { gp_run(state.as_mut_ptr(), state.len(), n) }.taken()
+}
+
+pub fn replay(state: &mut [u64], n: u32, log: &[u32]) -> Result<(u64, u64), Refusal> {
+    // SAFETY: both are slices, borrowed for the call; the state, borrowed mutably, overlaps nothing.
+    unsafe { gp_replay(state.as_mut_ptr(), state.len(), n, log.as_ptr(), log.len()) }.taken()
 }
 
 pub fn counts(state: &[u64], row: u32, room: &mut [u64]) -> Result<u64, Refusal> {

@@ -1,9 +1,9 @@
 //! Galleypoppy for firmware in Rust: patterns, verdict, dispatcher and task text of the music stand's scheduler.
 //!
 //! The work is done by the functions of `crates/stand_c`, each proved to give the answer that document 01 names (spare: document
-//! 02, 1/14; the stored number of met marks: 2/14; the two patterns: 3/14; old texts carried over and back: 4/14) on every input.
-//! This package lends them slices, so that what a caller in C owes (true lengths, alignment, no overlap) is kept by the types. It
-//! does not allocate, it does not panic, and all its `unsafe` is in one module.
+//! 02, 1/14; the stored number of met marks: 2/14; the two patterns: 3/14; old texts carried over and back: 4/14; a replay with
+//! measured job lengths: 5/14) on every input. This package lends them slices, so that what a caller in C owes (true lengths,
+//! alignment, no overlap) is kept by the types. It does not allocate, it does not panic, and all its `unsafe` is in one module.
 //!
 //! A refused call alters nothing that was lent. An accepted one alters only the part of the room that its answer fills, from the
 //! start, and gives back that part.
@@ -24,7 +24,8 @@
 //! # }
 //! ```
 //!
-//! Stack: [`job`], [`word`], [`tick`], [`run`] and [`report`] lay the pattern book there, 16,640 bytes. A [`State`] is 5,144 bytes.
+//! Stack: [`job`], [`word`], [`tick`], [`run`], [`replay`] and [`report`] lay the pattern book there, 16,640 bytes, and [`replay`]
+//! a copy of the state. A [`State`] is 5,144 bytes.
 #![no_std]
 #![deny(missing_docs)]
 #![deny(unsafe_op_in_unsafe_fn)]
@@ -39,7 +40,8 @@ mod text;
 
 pub use pattern::{job, word, Kind, Pattern};
 pub use refusal::Refusal;
-pub use saved::{counts, fresh, held, run, tick, well, Counts, COUNT_WORDS, STATE_WORDS};
+pub use saved::{counts, fresh, held, replay, run, tick, well};
+pub use saved::{Counts, Replayed, COUNT_WORDS, STATE_WORDS};
 pub use state::{Field, State};
 pub use table::{check, verdict, ROWS_MAX, TABLE_WORDS, TASK_WORDS};
 pub use text::{read, report, to_new, to_old, write, OLD_TEXT_BYTES, REPORT_BYTES, TEXT_BYTES};

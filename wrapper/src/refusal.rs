@@ -41,6 +41,8 @@ pub enum Refusal {
     P(u64),
     /// 17: this row is the first that the old form of a text cannot say: its p is 1. It comes before 13.
     NotOld(u64),
+    /// 18: the number at this place of a log, from 0, outside 1..C of the row whose job it is for.
+    Log(u64),
     /// Any other number, with what came beside it: the linked archive is not the one that this package goes with.
     Other(u64, u64),
 }
@@ -66,6 +68,7 @@ impl Refusal {
             15 => Refusal::Clock,
             16 => Refusal::P(also),
             17 => Refusal::NotOld(also),
+            18 => Refusal::Log(also),
             _ => Refusal::Other(number, also),
         }
     }
@@ -91,6 +94,7 @@ impl Refusal {
             Refusal::Clock => 15,
             Refusal::P(_) => 16,
             Refusal::NotOld(_) => 17,
+            Refusal::Log(_) => 18,
             Refusal::Other(number, _) => number,
         }
     }
@@ -109,7 +113,7 @@ impl Refusal {
             | Refusal::NotOld(row)
             | Refusal::Repeated(row)
             | Refusal::Unschedulable(row) => Some(row),
-            Refusal::Text(place) => Some(place),
+            Refusal::Text(place) | Refusal::Log(place) => Some(place),
             _ => None,
         }
     }
@@ -136,6 +140,7 @@ impl fmt::Display for Refusal {
             Refusal::Clock => "time + n past the clock's end",
             Refusal::P(_) => "p above 1",
             Refusal::NotOld(_) => "a row that the old form cannot say",
+            Refusal::Log(_) => "a number of the log outside its range",
             Refusal::Other(..) => "unknown to this package",
         })?;
         write!(f, " (refused={}", self.number())?;

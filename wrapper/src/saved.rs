@@ -52,6 +52,15 @@ impl Counts {
     }
 }
 
+/// How far a replay came.
+#[derive(Clone, Copy, Debug, Default, PartialEq, Eq, Hash)]
+pub struct Replayed {
+    /// Ticks done.
+    pub ticks: u32,
+    /// Numbers of the log used, from its start.
+    pub used: usize,
+}
+
 /// The fresh state of a table, admitted or not, in the first [`STATE_WORDS`] words of the room: its number of rows.
 ///
 /// # Errors
@@ -86,6 +95,22 @@ pub fn tick(state: &mut [u64]) -> Result<(), Refusal> {
 /// Refusals 14, 15.
 pub fn run(state: &mut [u64], n: u32) -> Result<(), Refusal> {
     ffi::run(state, n).map(|_| ())
+}
+
+/// At most n ticks of a state with the lengths of a log in place of C, as [`State::replay`](crate::State::replay) has it. A refusal
+/// alters no word of the state.
+///
+/// # Errors
+///
+/// Refusals 14; 15 by n, also where the log would stop the replay sooner; then 18, with the place of the first number out of range
+/// that a release before the stop would use.
+pub fn replay(state: &mut [u64], n: u32, log: &[u32]) -> Result<Replayed, Refusal> {
+    let (ticks, used) = ffi::replay(state, n, log)?;
+    // No more than n, and no more than the log has.
+    Ok(Replayed {
+        ticks: ticks as u32,
+        used: used as usize,
+    })
 }
 
 /// The counts of one row of a state, all 0 where it has no such row.

@@ -1,7 +1,8 @@
 //! A state that keeps its own words.
 
 use crate::saved::{HEAD_WORDS, ROW_WORDS};
-use crate::{counts, fresh, held, run, tick, well, Counts, Pattern, Refusal, STATE_WORDS};
+use crate::{counts, fresh, held, replay, run, tick, well};
+use crate::{Counts, Pattern, Refusal, Replayed, STATE_WORDS};
 
 /// The words of a row of a state, in their order.
 #[derive(Clone, Copy, Debug, PartialEq, Eq, Hash)]
@@ -168,5 +169,47 @@ impl State {
     /// Refusal 15.
     pub fn run(&mut self, n: u32) -> Result<(), Refusal> {
         run(&mut self.words, n)
+    }
+
+    /// A replay: at most n ticks with the lengths of a log in place of C.
+    ///
+    /// The log says how long each job really took: one number for each job that is released, in order of release (by tick, then by
+    /// row), each 1 to C of its row. The replay stops before the first tick that releases more jobs than the log has left, or after
+    /// n ticks; a tick that releases none needs no number, so it is done also where the log is empty or used up. Numbers that no
+    /// release before the stop would use are not looked at.
+    ///
+    /// It can be made in pieces: when more numbers have come, go on with the log from `used` on, and with the ticks that are left.
+    /// Where every number is the C of its row, the state is that of [`State::run`] over the same ticks.
+    ///
+    /// From the fresh state of a table that [`verdict`](crate::verdict) admits, whatever the numbers of an accepted replay are:
+    /// every mandatory job meets its deadline, none takes longer than its row's response time (job 0 may take less, where jobs are
+    /// shorter than C), and any k consecutive jobs of a task hold at least m finished in time.
+    ///
+    /// It is made on a copy of the words, so that a refusal leaves the state as it was, however late in the log the number stands.
+    ///
+    /// ```
+    /// use galleypoppy::{Refusal, Replayed, State};
+    ///
+    /// # fn main() -> Result<(), Refusal> {
+    /// // Jobs of at most 3 ticks, one every 4.
+    /// let mut state = State::fresh(&[7, 3, 4, 4, 1, 1, 0])?;
+    /// let log = [1, 3, 2];
+    /// let first = state.replay(20, &log[..2])?;
+    /// assert_eq!(first, Replayed { ticks: 8, used: 2 });
+    /// assert_eq!(state.replay(20 - first.ticks, &log[first.used..])?.ticks, 4);
+    /// assert_eq!((state.time(), state.idle()), (12, 6));
+    ///
+    /// assert_eq!(state.replay(20, &[3, 4]), Err(Refusal::Log(1)));
+    /// assert_eq!(state.time(), 12);
+    /// # Ok(())
+    /// # }
+    /// ```
+    ///
+    /// # Errors
+    ///
+    /// Refusal 15 by n, also where the log would stop the replay sooner; then 18, with the place of the first number out of range
+    /// that a release before the stop would use.
+    pub fn replay(&mut self, n: u32, log: &[u32]) -> Result<Replayed, Refusal> {
+        replay(&mut self.words, n, log)
     }
 }

@@ -215,4 +215,8 @@ fn number_and_place() {
         Refusal::NotOld(0).to_string(),
         "a row that the old form cannot say (refused=17 at=0)"
     );
+    assert_eq!(
+        Refusal::Log(10).to_string(),
+        "a number of the log outside its range (refused=18 at=10)"
+    );
 }
