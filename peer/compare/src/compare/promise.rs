@@ -12,6 +12,7 @@ use peer::answer::{refusal, Answer};
 use peer::gen::{loaded_table, tiny_table};
 use peer::pattern::RED;
 use peer::promise::{judge, Kept};
+use peer::rng::Rng;
 use peer::table::{Table, TaskRow, ROWS_MAX};
 
 use super::Comparison;
@@ -154,34 +155,42 @@ fn cycles(course: &mut Course) -> Compared {
     looked_at(&all)
 }
 
+/// A table near full load, or a tiny one.
+pub(super) fn drawn_table(rng: &mut Rng) -> Vec<u32> {
+    match rng.below(4) {
+        0 => tiny_table(rng),
+        _ => loaded_table(rng),
+    }
+}
+
+/// A table that one unit of work more makes unschedulable, and the one with it;
+/// few rows and short periods, so that long patterns come round.
+pub(super) fn drawn_limit(rng: &mut Rng) -> LimitPair {
+    let (few, any) = (1 + rng.index(4), 1 + rng.index(ROWS_MAX));
+    let rows = if rng.once_in(8) { any } else { few };
+    let shape = Shape {
+        rows,
+        t_low: 4 * rows as u32,
+        t_high: 8 * rows as u32,
+    };
+    limit_pair(rng, shape)
+}
+
 /// Tables near full load, and tiny ones.
 fn drawn(course: &mut Course) -> Compared {
     let mut all = Seen::default();
     for _ in 0..DRAWN {
-        let rng = &mut course.rng;
-        let words = match rng.below(4) {
-            0 => tiny_table(rng),
-            _ => loaded_table(rng),
-        };
+        let words = drawn_table(&mut course.rng);
         same_promise(course, &words, &mut all)?;
     }
     looked_at(&all)
 }
 
-/// Tables that one unit of work more makes unschedulable, and those with it; few
-/// rows and short periods, so that long patterns come round.
+/// Tables that one unit of work more makes unschedulable, and those with it.
 fn limit(course: &mut Course) -> Compared {
     let mut all = Seen::default();
     for _ in 0..LIMITS {
-        let rng = &mut course.rng;
-        let (few, any) = (1 + rng.index(4), 1 + rng.index(ROWS_MAX));
-        let rows = if rng.once_in(8) { any } else { few };
-        let shape = Shape {
-            rows,
-            t_low: 4 * rows as u32,
-            t_high: 8 * rows as u32,
-        };
-        let pair = limit_pair(rng, shape);
+        let pair = drawn_limit(&mut course.rng);
         same_pair(course, &pair, &mut all)?;
     }
     looked_at(&all)

@@ -4,14 +4,14 @@
 use peer::answer::Answer;
 use peer::brute::replay::{releases, Release};
 use peer::dispatch::{State, STATE_WORDS};
-use peer::gen::{loaded_table, log, tiny_table};
+use peer::gen::log;
 use peer::promise::{judge_replay, Kept, Trace};
 use peer::table::{Table, ROWS_MAX};
 
-use super::super::promise::{stepped, ticks_for, Lengths, Seen};
+use super::super::promise::{drawn_limit, drawn_table, stepped, ticks_for, Lengths, Seen};
 use super::{log_shown, replayed_shown};
 use crate::course::{shown, Compared, Course, Difference};
-use crate::draw::{limit_pair, short_cycle_pair, Shape};
+use crate::draw::short_cycle_pair;
 use crate::ffi;
 
 /// Tables with short cycles, drawn near full load, and at their limit.
@@ -137,11 +137,7 @@ pub fn cycles(course: &mut Course) -> Compared {
 pub fn drawn(course: &mut Course) -> Compared {
     let mut all = Seen::default();
     for _ in 0..DRAWN {
-        let rng = &mut course.rng;
-        let words = match rng.below(4) {
-            0 => tiny_table(rng),
-            _ => loaded_table(rng),
-        };
+        let words = drawn_table(&mut course.rng);
         same_promise(course, &words, &mut all)?;
     }
     looked_at(&all)
@@ -151,15 +147,7 @@ pub fn drawn(course: &mut Course) -> Compared {
 pub fn limit(course: &mut Course) -> Compared {
     let mut all = Seen::default();
     for _ in 0..LIMITS {
-        let rng = &mut course.rng;
-        let (few, any) = (1 + rng.index(4), 1 + rng.index(ROWS_MAX));
-        let rows = if rng.once_in(8) { any } else { few };
-        let shape = Shape {
-            rows,
-            t_low: 4 * rows as u32,
-            t_high: 8 * rows as u32,
-        };
-        let words = limit_pair(rng, shape).within;
+        let words = drawn_limit(&mut course.rng).within;
         same_promise(course, &words, &mut all)?;
     }
     looked_at(&all)
