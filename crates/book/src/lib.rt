@@ -1,9 +1,11 @@
 // The pattern book, and the question about one job.
+ghost use mathlib.Core.List.{[]};
 ghost use mathlib.Core.Path.{_≡_};
 ghost use Prim.Native.Nat.{_<_, _≤_, _-_, _/_, _%_, _^_};
 ghost use lib.Dec.{eqb};
-ghost use Rattle.law.specs.Pattern.{InRange, theBook, word, pairWord, question};
-ghost use Rattle.book.specs.Shown.{jobShown, wordShown};
+ghost use Rattle.law.specs.Refusal.{accepted};
+ghost use Rattle.law.specs.Pattern.{InRange, theBook, word, mandatory, pairChecked, pairWord, question};
+ghost use Rattle.book.specs.Shown.{jobShown, wordShown, pairShown};
 
 mod words;
 
@@ -65,32 +67,59 @@ pub fn bit_at(pattern: u64, place: u64) -> bool
     (pattern >> place) % 2 == 1
 }
 
+// Whether a pair that a caller offers is in range, or why not.
+enum Pair {
+    Good,
+    Refused(Refusal),
+}
+
+// The tests of a pair that a caller offers, k first.
+fn pair_checked(m: u32, k: u32) -> Pair
+    ensures { λ r. ⌜ pairShown r ≡ pairChecked m k (accepted []) ⌝ }
+{
+    let wide_k = k as u64;
+    if !is_within(1, 64, wide_k) {
+        return Pair::Refused(Refusal::K(0));
+    }
+    if !is_within(1, wide_k, m as u64) {
+        return Pair::Refused(Refusal::M(0));
+    }
+    Pair::Good
+}
+
 // The word of a pair that a caller offers.
 pub fn word_of(m: u32, k: u32) -> Word
     ensures { λ r. ⌜ wordShown r ≡ pairWord m k ⌝ }
 {
-    let wide_m = m as u64;
-    let wide_k = k as u64;
-    if !is_within(1, 64, wide_k) {
-        return Word::Refused(Refusal::K(0));
+    match pair_checked(m, k) {
+        Pair::Good => Word::Is(pattern(m as u64, k as u64)),
+        Pair::Refused(refusal) => Word::Refused(refusal),
     }
-    if !is_within(1, wide_k, wide_m) {
-        return Word::Refused(Refusal::M(0));
-    }
-    Word::Is(pattern(wide_m, wide_k))
 }
 
-// Is job number `job` of a task with m out of k mandatory? The pattern repeats after k jobs.
+// Whether a job is mandatory, by one remainder and without the book: the tuner asks several hundred times a second. A remainder from 1 to k - m
+// is that of an optional job. The product of a 32-bit number and one of at most 64 is taken in 64 bits: it can't wrap.
+fn is_mandatory(m: u32, k: u32, job: u32) -> bool
+    requires { ⌜ InRange m k ⌝ }
+    ensures { λ r. ⌜ r ≡ mandatory m k job ⌝ }
+{
+    let remainder = job as u64 * m as u64 % k as u64;
+    let most = (k - m) as u64;
+    remainder == 0 || most < remainder
+}
+
+// Is job number `job` of a task with m out of k mandatory?
 pub fn ask(m: u32, k: u32, job: u32) -> Job
     ensures { λ r. ⌜ jobShown r ≡ question m k job ⌝ }
 {
-    let word = match word_of(m, k) {
-        Word::Is(word) => word,
-        Word::Refused(refusal) => return Job::Refused(refusal),
-    };
-    if bit_at(word, (job % k) as u64) {
-        Job::Mandatory
-    } else {
-        Job::Optional
+    match pair_checked(m, k) {
+        Pair::Good => {
+            if is_mandatory(m, k, job) {
+                Job::Mandatory
+            } else {
+                Job::Optional
+            }
+        }
+        Pair::Refused(refusal) => Job::Refused(refusal),
     }
 }

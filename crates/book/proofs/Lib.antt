@@ -1,0 +1,2 @@
+pub mod Remainder
+pub mod Pairs
