@@ -1,5 +1,5 @@
-//! "Patterns": which jobs are mandatory, by the even rule with its book and by the
-//! deeply-red one.
+//! "Patterns": which jobs are mandatory, by the even rule with its book and its short
+//! form, and by the deeply-red one.
 
 use crate::answer::{refusal, Answer};
 
@@ -29,6 +29,22 @@ pub const fn mandatory(m: u32, k: u32, a: u32) -> bool {
     // With m and k at most 64 every product stays far below 2^64.
     let (m, k, a) = (m as u64, k as u64, a as u64);
     a == (a * m).div_ceil(k) * k / m
+}
+
+/// "For even patterns, use one remainder: job a is mandatory when a x m mod k is 0 or
+/// greater than k - m" (document 02, 6/14).
+///
+/// [`mandatory`] stays the rule, and this gives what it gives. A pair outside its range
+/// has no mandatory jobs here either.
+pub const fn mandatory_by_remainder(m: u32, k: u32, a: u32) -> bool {
+    if !is_pair(m, k) {
+        return false;
+    }
+    // The product of 32 bits and m, which is at most 64, needs more than 32 of them.
+    let (m, k, a) = (m as u64, k as u64, a as u64);
+    let rest = a * m % k;
+    // Both are looked at, so that there is no branch to guess: it is quicker so.
+    (rest == 0) | (rest > k - m)
 }
 
 /// "the first q jobs hold exactly ceil(q x m / k) mandatory ones"
@@ -93,6 +109,7 @@ pub fn book() -> Vec<u64> {
 }
 
 /// The pair's word out of the book; 0 for a pair outside its range.
+#[inline]
 pub fn entry(m: u32, k: u32) -> u64 {
     place(m, k).map_or(0, |at| BOOK[at])
 }
@@ -141,17 +158,29 @@ impl Pattern {
     }
 }
 
-/// "A question about one job takes m, k and any 32-bit job number." "For a
-/// question about one job: 8, 9, each with row 0." "The job question keeps m, k and
-/// the even rule" (document 02, 3/14).
-///
-/// The value is 1 for a mandatory job and 0 for an optional one.
-pub fn job(m: u32, k: u32, a: u32) -> Answer {
+/// A question that takes m and k: "8, 9, each with row 0", otherwise this value.
+pub fn asked(m: u32, k: u32, value: impl FnOnce() -> u64) -> Answer {
     if !(1..=K_MAX).contains(&k) {
         return Answer::refused_at(refusal::K, 0);
     }
     if !(1..=k).contains(&m) {
         return Answer::refused_at(refusal::M, 0);
     }
-    Answer::accepted(u64::from(mandatory(m, k, a)))
+    Answer::accepted(value())
+}
+
+/// "A question about one job takes m, k and any 32-bit job number." "For a
+/// question about one job: 8, 9, each with row 0." "The job question keeps m, k and
+/// the even rule" (document 02, 3/14).
+///
+/// The value is 1 for a mandatory job and 0 for an optional one.
+#[inline]
+pub fn job(m: u32, k: u32, a: u32) -> Answer {
+    asked(m, k, || mandatory(m, k, a).into())
+}
+
+/// The same question by one remainder: it "answers as before" (document 02, 6/14).
+#[inline]
+pub fn job_by_remainder(m: u32, k: u32, a: u32) -> Answer {
+    asked(m, k, || mandatory_by_remainder(m, k, a).into())
 }

@@ -3,7 +3,7 @@
 
 use peer::answer::Answer;
 use peer::dispatch::{fresh, run, tick};
-use peer::pattern::{book, entry, job, mandatory, place, word};
+use peer::pattern::{book, entry, job, job_by_remainder, mandatory, place, word};
 use peer::report::report;
 use peer::table::check;
 use peer::verdict::{load, verdict, verdict_leaping};
@@ -17,12 +17,13 @@ const OUTPUT: &str = "verdict=admitted\nticks=24\nidle=0\n\
     row=0\nid=11\nr=2\nreleased=6\nmm=3\nmx=0\nom=2\nox=1\nbroken=0\nspare=1\n\
     row=1\nid=12\nr=6\nreleased=4\nmm=3\nmx=0\nom=0\nox=1\nbroken=0\nspare=0\n";
 
-/// The mandatory ones of the first jobs, by the rule and by the question.
+/// The mandatory ones of the first jobs, by the rule and by the question's two forms.
 fn mandatory_jobs(m: u32, k: u32, jobs: u32) -> Vec<u32> {
     let found: Vec<u32> = (0..jobs).filter(|&a| mandatory(m, k, a)).collect();
     for a in 0..jobs {
         let expected = Answer::accepted(u64::from(found.contains(&a)));
         assert_eq!(job(m, k, a), expected);
+        assert_eq!(job_by_remainder(m, k, a), expected);
     }
     found
 }

@@ -1,5 +1,8 @@
 //! "Patterns": the rule, its counts and the book.
 
+#[path = "pattern/remainder.rs"]
+mod remainder;
+
 use peer::answer::Answer;
 use peer::brute::pattern as literal;
 use peer::gen::job_question;

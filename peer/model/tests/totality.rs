@@ -7,7 +7,7 @@ use peer::dispatch::{fresh_words, well_formed_words, Row, State};
 use peer::dispatch::{from_words, run, run_words, spare, tick_words, to_words, well_formed};
 use peer::dispatch::{replay, replay_plain, replay_words};
 use peer::gen::{any_log, damaged_states, scrambled_state};
-use peer::pattern::{count, entry, job, mandatory, place, word};
+use peer::pattern::{count, entry, job, job_by_remainder, mandatory, place, word};
 use peer::report::{report, report_into};
 use peer::rng::Rng;
 use peer::table::check;
@@ -56,6 +56,7 @@ fn rubbish_pairs() {
     for _ in 0..100_000 {
         let [m, k, a] = [0; 3].map(|_| any_number(&mut rng) as u32);
         let answer = job(m, k, a);
+        assert_eq!(job_by_remainder(m, k, a), answer);
         assert_eq!(answer.is_accepted(), place(m, k).is_some());
         assert_eq!(
             mandatory(m, k, a),

@@ -1,6 +1,7 @@
 //! "Patterns": the words of the book, and the question about one job.
 
-use peer::answer::Answer;
+use std::ops::RangeInclusive;
+
 use peer::gen::job_question;
 use peer::pattern::{self, K_MAX, PAIRS};
 
@@ -14,6 +15,8 @@ pub const ALL: &[Comparison] = &[
     Comparison::drawn("pattern_words_edges", &[0, 8, 9], words_edges),
     Comparison::fixed("pattern_jobs_first", &[0], jobs_first),
     Comparison::drawn("pattern_jobs_cycles", &[0], jobs_cycles),
+    Comparison::fixed("pattern_jobs_remainders", &[0], jobs_remainders),
+    Comparison::fixed("pattern_jobs_products", &[0], jobs_products),
     Comparison::fixed("pattern_jobs_edges", &[0, 8, 9], jobs_edges),
     Comparison::drawn("pattern_jobs_drawn", &[0, 8, 9], jobs_drawn),
 ];
@@ -36,22 +39,22 @@ fn pairs() -> impl Iterator<Item = (u32, u32)> {
 /// one job, which a pair outside its range has for every job alike.
 fn same_word(course: &mut Course, m: u32, k: u32) -> Compared {
     let first = ffi::word(m, k);
-    let asked = pattern::job(m, k, 0);
-    let peer = match asked.is_accepted() {
-        true => Answer::accepted(pattern::word(m, k)),
-        false => asked,
-    };
+    let peer = pattern::asked(m, k, || pattern::word(m, k));
     course.settle(peer, first == peer, || {
         let (first, peer) = (shown(first), shown(peer));
         format!("word of m {m} k {k}\nfirst {first}\npeer  {peer}")
     })
 }
 
+/// The question as the first program answers it and as the second does, which has two
+/// forms of it: the rule of document 01 decides, and the one remainder of document 02,
+/// 6/14, "answers as before".
 fn same_job(course: &mut Course, m: u32, k: u32, job: u32) -> Compared {
     let (first, peer) = (ffi::job(m, k, job), pattern::job(m, k, job));
-    course.settle(peer, first == peer, || {
-        let (first, peer) = (shown(first), shown(peer));
-        format!("job {job} of m {m} k {k}\nfirst {first}\npeer  {peer}")
+    let short = pattern::job_by_remainder(m, k, job);
+    course.settle(peer, first == peer && short == peer, || {
+        let [first, peer, short] = [first, peer, short].map(shown);
+        format!("job {job} of m {m} k {k}\nfirst {first}\npeer  {peer}\nshort {short}")
     })
 }
 
@@ -110,6 +113,50 @@ fn jobs_cycles(course: &mut Course) -> Compared {
         }
         for back in 0..=k {
             same_job(course, m, k, u32::MAX - back)?;
+        }
+    }
+    Ok(())
+}
+
+/// So many jobs on each side of one, those that there are.
+fn around(job: u32, reach: u32) -> RangeInclusive<u32> {
+    job.saturating_sub(reach)..=job.saturating_add(reach)
+}
+
+/// "a x m mod k is 0 or greater than k - m": of the jobs around one, a whole cycle on
+/// each side, those with a remainder at an end or beside one.
+fn same_remainders(course: &mut Course, m: u32, k: u32, middle: u32) -> Compared {
+    let telling = [0, 1, k - m, k - m + 1, k - 1].map(u64::from);
+    for job in around(middle, k) {
+        let rest = u64::from(job) * u64::from(m) % u64::from(k);
+        if telling.contains(&rest) {
+            same_job(course, m, k, job)?;
+        }
+    }
+    Ok(())
+}
+
+/// Those remainders among the first jobs, the last, and where the number itself is as
+/// long as a half of its bits, or as all but one.
+fn jobs_remainders(course: &mut Course) -> Compared {
+    for (m, k) in pairs() {
+        for middle in [0, 1 << 16, 1 << 31, u32::MAX] {
+            same_remainders(course, m, k, middle)?;
+        }
+    }
+    Ok(())
+}
+
+/// Jobs whose product a x m is just below, at or just above a multiple of 2^31, so that
+/// 32 bits, signed or not, would not hold it; and those remainders there.
+fn jobs_products(course: &mut Course) -> Compared {
+    for (m, k) in pairs() {
+        for half in 1..2 * u64::from(m) {
+            let middle = (half << 31).div_ceil(m.into()) as u32;
+            for job in around(middle, 2) {
+                same_job(course, m, k, job)?;
+            }
+            same_remainders(course, m, k, middle)?;
         }
     }
     Ok(())

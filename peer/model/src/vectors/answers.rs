@@ -116,10 +116,7 @@ fn wide_room(number: u64, most: usize) -> Option<Vec<u64>> {
 
 /// The pair's word, refused as a question about one of its jobs is.
 fn word(m: u32, k: u32) -> Answer {
-    match pattern::job(m, k, 0) {
-        asked if asked.is_accepted() => Answer::accepted(pattern::word(m, k)),
-        refused => refused,
-    }
+    pattern::asked(m, k, || pattern::word(m, k))
 }
 
 fn judged(out: &mut Vec<u64>, length: usize, words: &[u32]) {
