@@ -11,9 +11,9 @@
  * They can be called at the same time on different runs. The archive has no writable data, and the only outside symbols it asks for
  * are memcpy and memset.
  *
- * Stack, measured at 32 rows: gp_job, gp_word, gp_tick and gp_run lay the pattern book there, 17,368 bytes in all; gp_replay also a
+ * Stack, measured at 32 rows: gp_word, gp_tick and gp_run lay the pattern book there, up to 17,368 bytes in all; gp_replay also a
  * copy of the state, 22,488 bytes; gp_report also holds a table, a state and what it prints, 28,920 bytes; gp_to_old 4,472, gp_to_new
- * 3,544, gp_write 1,688, gp_read 1,288, gp_verdict 624; gp_check, gp_fresh, gp_well, gp_counts and gp_held under 150.
+ * 3,544, gp_write 1,688, gp_read 1,288, gp_verdict 624; gp_job, gp_check, gp_fresh, gp_well, gp_counts and gp_held under 150.
  *
  * Answers. Every function hands back two numbers, gp_replay a third behind them. Where `refusal` is 0, the call was accepted and
  * `value` is its answer. Otherwise `refusal` is a number of documents 01 and 02 (enum gp_refusal), and `value` is the row or the place
@@ -169,7 +169,8 @@ enum gp_count {
 
 /*
  * Whether job number `job`, from 0, of a task with m out of k is mandatory by the even rule. Value: 1, or 0 for optional.
- * It tells of a row with p 0 only. In a row with p 1, job a is mandatory when a mod k is below m.
+ * It tells of a row with p 0 only. In a row with p 1, job a is mandatory when a mod k is below m. It takes one remainder and lays
+ * nothing on the stack, so it may be asked often; gp_word lays the whole book.
  * Refusals: 8, 9, each with row 0.
  */
 struct gp_answer gp_job(uint32_t m, uint32_t k, uint32_t job);

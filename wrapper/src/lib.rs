@@ -24,7 +24,7 @@
 //! # }
 //! ```
 //!
-//! Stack: [`job`], [`word`], [`tick`], [`run`], [`replay`] and [`report`] lay the pattern book there, 16,640 bytes, and [`replay`]
+//! Stack: [`word`], [`tick`], [`run`], [`replay`] and [`report`] lay the pattern book there, 16,640 bytes, and [`replay`]
 //! a copy of the state. A [`State`] is 5,144 bytes.
 #![no_std]
 #![deny(missing_docs)]
