@@ -1,11 +1,12 @@
 -- Values of the definitions that documents 01 and 02 write out.
-use mathlib.Core.List.{List, [], _∷_, map}
+use mathlib.Core.List.{List, [], _∷_, _++_, map}
 use mathlib.Core.Path.{_≡_, refl}
 use Prim.Native.Nat.{ℕ}
-use Rattle.law.specs.Sums.{bit, ceil, firstFrom, largest, among, mapFrom, sum, bitsTo}
+use Rattle.law.specs.Sums.{bit, ceil, highest, build, firstFrom, largest, among, mapFrom, sum, bitsTo}
 use Rattle.law.specs.Pattern.{mandatory, count, deeplyRed, redCount, word}
 use Rattle.law.specs.Table.{Task, kindOf, countOf, wordOf}
-use Rattle.law.specs.Verdict.{demand, load, fitsAt, response}
+use Rattle.law.specs.Verdict.{demand, load, fitsAt, response, fits, misfit}
+use Rattle.law.specs.Room.{roomAt, room, rooms}
 use Rattle.law.specs.Tick.{Row, fresh, release, nextPlace, choose, outcome, advance, shifted, marks, spare, settled, releaseAll, advanceAll, finish, begin, tick, run}
 use Rattle.law.specs.Promise.{stateAfter, during, settling, took}
 
@@ -24,6 +25,15 @@ sample = refl
 p5-responses : response p5 0 ∷ response p5 1 ∷ took p5 0 0 ∷ took p5 1 0 ∷ [] ≡ 2 ∷ 6 ∷ 2 ∷ 6 ∷ []
 unfolding p5 response took during settling fitsAt load demand sum countOf count stateAfter run tick begin finish fresh release nextPlace choose outcome advance shifted marks settled releaseAll advanceAll mapFrom firstFrom among kindOf mandatory ceil
 p5-responses = refl
+
+-- Document 02, 7/14: a table that is turned down at row 1, whose room is 2 at tick 4 and less at its D, above a row that has none
+unfoldable pub late : List Task
+late =
+    record { id = 1; c = 2; t = 4; d = 4; m = 1; k = 1; p = 0 } ∷ record { id = 2; c = 4; t = 5; d = 5; m = 1; k = 1; p = 0 } ∷ record { id = 3; c = 1; t = 5; d = 5; m = 1; k = 1; p = 0 } ∷ []
+
+late-rooms : misfit late ∷ roomAt late 1 5 ∷ (rooms late ++ rooms p5) ≡ 1 ∷ 1 ∷ 4 ∷ 2 ∷ 0 ∷ 4 ∷ 4 ∷ []
+unfolding late p5 misfit fits response fitsAt load rooms room roomAt highest build demand sum countOf count firstFrom ceil
+late-rooms = refl
 
 -- "The words for (1,1), (2,3) and (3,5) are 1, 3 and 11."
 words : word 1 1 ∷ word 2 3 ∷ word 3 5 ∷ [] ≡ 1 ∷ 3 ∷ 11 ∷ []

@@ -10,6 +10,8 @@ pub mod Sums
 pub mod Table
 pub mod Fill
 pub mod Verdict
+pub mod Fits
+pub mod Room
 pub mod Window
 pub mod Spare
 pub mod Laid

@@ -3,15 +3,14 @@ use mathlib.Core.List.{List, [], _∷_, _++_}
 use mathlib.Core.Path.{_≡_, refl, sym, ap, _∙_}
 use Prim.Native.Nat.{ℕ, zero, suc, _+_, _-_, _*_, _≤_, _<_}
 use native.Mathlib.Omega.{arith}
-use lib.ListN.{length, getD, take, drop, length-append}
+use lib.ListN.{length, take, drop, length-append}
 use Rattle.law.specs.Refusal.{Answer, accepted, refused, head}
-use Rattle.law.specs.Table.{Task, row, tableOf}
-use Rattle.law.specs.Tick.{State, noRow, fresh, run}
-use Rattle.law.specs.State.{countsOf}
+use Rattle.law.specs.Table.{Task, tableOf}
+use Rattle.law.specs.Tick.{State, fresh, run}
 use Rattle.law.specs.Verdict.{admitted, misfit}
 use Rattle.law.specs.Text.{rowKeys, lines}
 use Rattle.law.specs.Reading.{Found, found, fault, decimal, lineAt, wordsRead, readAnswer}
-use Rattle.law.specs.Report.{ticksKey, idleKey, atKey, refusedKey, admittedLine, unschedulableLine, printedKeys, numberLines, refusalPrinted, verdictPrinted, responsePrinted, rowPrinted, rowsPrinted, statePrinted, runPrinted, placed, textPrinted, answerPrinted, printed, reportAnswer, reportRoom}
+use Rattle.law.specs.Report.{ticksKey, idleKey, atKey, refusedKey, admittedLine, unschedulableLine, printedKeys, numberLines, refusalPrinted, verdictPrinted, rowFigures, rowPrinted, rowsPrinted, statePrinted, runPrinted, placed, textPrinted, answerPrinted, printed, reportAnswer, reportRoom}
 use Rattle.law.proofs.Tests.{Known, passes, fails, known}
 use Rattle.law.specs.Sums.{pick}
 use Rattle.law.proofs.Lists.{take-drop}
@@ -80,9 +79,9 @@ numbers-most (key ∷ keys) (v ∷ values) =
       numbers-most keys values,
     )
 
-pub row-most : (tasks : List Task) (s : State) (i : ℕ) → length (rowPrinted tasks s i) ≤ 153
+pub row-most : (tasks : List Task) (s : State) (i : ℕ) → length (rowPrinted tasks s i) ≤ 169
 unfolding rowPrinted
-row-most tasks s i = numbers-most printedKeys (i ∷ row tasks i .id ∷ responsePrinted tasks i ∷ countsOf (getD (s .rows) i noRow))
+row-most tasks s i = numbers-most printedKeys (rowFigures tasks s i)
 
 -- the verdict takes few bytes
 pub verdict-most : (tasks : List Task) → length (verdictPrinted tasks) ≤ 36
@@ -95,13 +94,13 @@ verdict-most tasks = by (known (admitted tasks))
         rw e
         (omega (arith, length-append unschedulableLine (numberLines (atKey ∷ []) (misfit tasks ∷ [])), numbers-most (atKey ∷ []) (misfit tasks ∷ [])))
 
-rows-most : (tasks : List Task) (s : State) (n : ℕ) → length (rowsPrinted tasks s n) ≤ n * 153
+rows-most : (tasks : List Task) (s : State) (n : ℕ) → length (rowsPrinted tasks s n) ≤ n * 169
 unfolding rowsPrinted
 rows-most tasks s zero = omega arith
 rows-most tasks s (suc n) =
     omega (arith, length-append (rowsPrinted tasks s n) (rowPrinted tasks s n), rows-most tasks s n, row-most tasks s n)
 
-run-most : (tasks : List Task) (n : ℕ) → length tasks ≤ 32 → length (runPrinted tasks n) ≤ 5120
+run-most : (tasks : List Task) (n : ℕ) → length tasks ≤ 32 → length (runPrinted tasks n) ≤ 5632
 unfolding runPrinted statePrinted
 run-most tasks n h =
     let s = run n (fresh tasks) in
@@ -120,19 +119,19 @@ pub refusal-most : (n : ℕ) (also : List ℕ) → length (refusalPrinted n also
 refusal-most n [] = omega (arith, numbers-most (refusedKey ∷ []) (n ∷ []))
 refusal-most n (at ∷ more) = omega (arith, numbers-most (refusedKey ∷ atKey ∷ []) (n ∷ at ∷ []))
 
--- a room of 5,120 bytes takes every answer
-pub printed-most : (input : List ℕ) → length (printed input) ≤ 5120
+-- a room of 5,632 bytes takes every answer
+pub printed-most : (input : List ℕ) → length (printed input) ≤ 5632
 unfolding printed
 printed-most input = by (lineAt input 0 ticksKey)
   where
     text : (values : List ℕ) (next : ℕ) (a : Answer) → readAnswer (drop next input) 224 ≡ a
-        → length (answerPrinted (head values) next (wordsRead rowKeys (drop next input)) a) ≤ 5120
+        → length (answerPrinted (head values) next (wordsRead rowKeys (drop next input)) a) ≤ 5632
     text values next (refused n also) e = omega (arith, refusal-most n (placed next n also))
     text values next (accepted rows) e =
         let t = read-write (drop next input) 224 rows e in
         run-most (tableOf (wordsRead rowKeys (drop next input))) (head values) (omega (arith, table-length (wordsRead rowKeys (drop next input)), t .high))
 
-    by : (f : Found) → length (textPrinted input f) ≤ 5120
+    by : (f : Found) → length (textPrinted input f) ≤ 5632
     by (fault j) = omega (arith, refusal-most 12 (j ∷ []))
     by (found values next) = text values next (readAnswer (drop next input) 224) refl
 
@@ -148,6 +147,6 @@ module _ (input room : List ℕ) where
   report-accepted h = let e = put-accepted (printed input) (length room) h in (e, put-filled (printed input) room e)
 
 -- so the program's own room is never too short
-pub report-fits : (input : List ℕ) (m : ℕ) → accepted (m ∷ []) ≡ reportAnswer input 5120 → m ≤ 5120
+pub report-fits : (input : List ℕ) (m : ℕ) → accepted (m ∷ []) ≡ reportAnswer input 5632 → m ≤ 5632
 unfolding reportAnswer
-report-fits input m e = let s = put-says (printed input) 5120 (sym e) in omega (arith, s .0, ap head (s .1))
+report-fits input m e = let s = put-says (printed input) 5632 (sym e) in omega (arith, s .0, ap head (s .1))

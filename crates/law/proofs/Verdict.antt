@@ -2,18 +2,18 @@
 use mathlib.Core.Bool.{Bool, true, false, not}
 use mathlib.Core.List.{List, [], _∷_, _++_}
 use mathlib.Core.Path.{_≡_, refl, ap, _∙_}
-use Prim.Native.Nat.{ℕ, _+_, _-_, _*_, _/_, _%_, _≤_, _<_}
+use Prim.Native.Nat.{ℕ, zero, suc, _+_, _-_, _*_, _/_, _%_, _≤_, _<_}
 use native.Mathlib.Decide.{decLt}
 use native.Mathlib.Nat.{mul-le-mul-left, mul-le-mul, mul-one}
 use native.Mathlib.Omega.{arith}
 use lib.Dec.{leb, ltb, eqb}
 use lib.ListN.{length, drop}
 use borrow.Author.Tests.{le-leb, lt-leb, leb-true, eq-eqb, ne-eqb, eqb-false}
-use Rattle.law.specs.Sums.{pick, ceil}
+use Rattle.law.specs.Sums.{pick, ceil, sum}
 use Rattle.law.specs.Refusal.{Answer, accepted, refused, orRefused, after}
 use Rattle.law.specs.Pattern.{IsPattern, mandatory, count, deeplyRed, redCount}
 use Rattle.law.specs.Table.{Task, row, width, isRed, kindOf, countOf, Ranged, WellFormed, tableOf, rowsChecked, checked}
-use Rattle.law.specs.Verdict.{demand, load, fitsAt, response, fits, misfit, admitted, responses, verdict, verdictRoom}
+use Rattle.law.specs.Verdict.{demand, above, load, fitsAt, response, fits, misfit, admitted, responses, verdict, verdictRoom}
 use Rattle.law.proofs.Ceil.{ceil-mono, ceil-least}
 use Rattle.law.proofs.Pattern.{even, counted-mono, counted-most}
 use Rattle.law.proofs.Red.{red}
@@ -50,11 +50,23 @@ module _ (r : Task) (h : Ranged r) where
   demand-small t l =
       mul-le-mul {n₁ = r .c} {m₁ = countOf r (ceil t (r .t))} {n₂ = 65535} {m₂ = 65535} (h .c-high) (omega (arith, jobs-few t))
 
+-- what rows above bring stays far below 64 bits
+pub above-small : (tasks : List Task) → WellFormed tasks → (i : ℕ) → i ≤ length tasks → (t : ℕ) → t ≤ 65535
+    → above tasks i t ≤ i * (65535 * 65535)
+unfolding sum
+above-small tasks w zero h t l = omega arith
+above-small tasks w (suc i) h t l =
+    omega (arith, above-small tasks w i (omega arith) t l, demand-small (row tasks i) (w .ranged i h) t l)
+
 module _ (tasks : List Task) (w : WellFormed tasks) (i : ℕ) (h : i < length tasks) where
+  -- what rows above bring never falls
+  pub above-mono : (s t : ℕ) → s ≤ t → above tasks i s ≤ above tasks i t
+  above-mono s t l =
+      sum-mono (λ j. demand (row tasks j) s) (λ j. demand (row tasks j) t) i (λ j q. demand-mono (row tasks j) (w .ranged j (omega arith)) s t l)
+
   pub load-mono : (s t : ℕ) → s ≤ t → load tasks i s ≤ load tasks i t
   unfolding load
-  load-mono s t l =
-      omega (arith, sum-mono (λ j. demand (row tasks j) s) (λ j. demand (row tasks j) t) i (λ j q. demand-mono (row tasks j) (w .ranged j (omega arith)) s t l))
+  load-mono s t l = omega (arith, above-mono s t l)
 
   -- where the load at t is above t, no tick from t up to it fits
   pub no-fit-before-load : (t s : ℕ) → t ≤ s → s < load tasks i t → fitsAt tasks i s ≡ false

@@ -3,6 +3,7 @@ pub mod Refusal
 pub mod Pattern
 pub mod Table
 pub mod Verdict
+pub mod Room
 pub mod Easing
 pub mod Tick
 pub mod State

@@ -7,6 +7,7 @@ use Rattle.law.specs.Sums.{pick}
 use Rattle.law.specs.Refusal.{Answer, accepted, refused, head}
 use Rattle.law.specs.Table.{Task, row, tableOf}
 use Rattle.law.specs.Verdict.{admitted, misfit, response}
+use Rattle.law.specs.Room.{room}
 use Rattle.law.specs.Tick.{State, noRow, fresh, run}
 use Rattle.law.specs.State.{countsOf}
 use Rattle.law.specs.Text.{rowKeys, lines}
@@ -37,12 +38,13 @@ abbrev pub unschedulableLine : List ℕ
 unschedulableLine =
     118 ∷ 101 ∷ 114 ∷ 100 ∷ 105 ∷ 99 ∷ 116 ∷ 61 ∷ 117 ∷ 110 ∷ 115 ∷ 99 ∷ 104 ∷ 101 ∷ 100 ∷ 117 ∷ 108 ∷ 97 ∷ 98 ∷ 108 ∷ 101 ∷ 10 ∷ []
 
--- row= id= r= released= mm= mx= om= ox= broken= spare=
+-- row= id= r= room= released= mm= mx= om= ox= broken= spare=; document 02, 7/14: "after `r=` comes a line `room=`"
 abbrev pub printedKeys : List (List ℕ)
 printedKeys =
     (114 ∷ 111 ∷ 119 ∷ 61 ∷ [])
     ∷ (105 ∷ 100 ∷ 61 ∷ [])
     ∷ (114 ∷ 61 ∷ [])
+    ∷ (114 ∷ 111 ∷ 111 ∷ 109 ∷ 61 ∷ [])
     ∷ (114 ∷ 101 ∷ 108 ∷ 101 ∷ 97 ∷ 115 ∷ 101 ∷ 100 ∷ 61 ∷ [])
     ∷ (109 ∷ 109 ∷ 61 ∷ [])
     ∷ (109 ∷ 120 ∷ 61 ∷ [])
@@ -70,10 +72,13 @@ verdictPrinted tasks =
 unfoldable pub responsePrinted : List Task → ℕ → ℕ
 responsePrinted tasks i = pick (admitted tasks) (response tasks i) 0
 
+-- the figures of row i, in the order of the keys; the room is "printed for every row, also in a table turned down"
+abbrev pub rowFigures : List Task → State → ℕ → List ℕ
+rowFigures tasks s i = i ∷ row tasks i .id ∷ responsePrinted tasks i ∷ room tasks i ∷ countsOf (getD (s .rows) i noRow)
+
 -- the lines of row i
 unfoldable pub rowPrinted : List Task → State → ℕ → List ℕ
-rowPrinted tasks s i =
-    numberLines printedKeys (i ∷ row tasks i .id ∷ responsePrinted tasks i ∷ countsOf (getD (s .rows) i noRow))
+rowPrinted tasks s i = numberLines printedKeys (rowFigures tasks s i)
 
 -- the lines of the first n rows
 unfoldable pub rowsPrinted : List Task → State → ℕ → List ℕ

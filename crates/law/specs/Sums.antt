@@ -23,6 +23,10 @@ pick false a b = b
 abbrev pub smaller : ℕ → ℕ → ℕ
 smaller a b = pick (leb a b) a b
 
+-- the larger of two numbers
+abbrev pub larger : ℕ → ℕ → ℕ
+larger a b = pick (leb a b) b a
+
 -- the quotient rounded up, for b of at least 1
 unfoldable pub ceil : ℕ → ℕ → ℕ
 ceil a b = (a + (b - 1)) / b
@@ -31,6 +35,11 @@ ceil a b = (a + (b - 1)) / b
 unfoldable pub sum : (ℕ → ℕ) → ℕ → ℕ
 sum f zero = 0
 sum f (suc n) = sum f n + f n
+
+-- the largest of f 0, .., f (n - 1); 0 where n is 0
+unfoldable pub highest : (ℕ → ℕ) → ℕ → ℕ
+highest f zero = 0
+highest f (suc n) = larger (highest f n) (f n)
 
 -- the first of the n numbers from i on that passes the test p; i + n where none does
 unfoldable pub firstFrom : (ℕ → Bool) → ℕ → ℕ → ℕ

@@ -13,9 +13,13 @@ use Rattle.law.specs.Table.{Task, row, countOf, tableOf, checked}
 unfoldable pub demand : Task → ℕ → ℕ
 demand r t = r .c * countOf r (ceil t (r .t))
 
--- "For row i and a tick count t of at least 1, the load is C of row i plus, for every row j above it," that
+-- "for every row j above it," that; document 02, 7/14: "the load that rows above bring by t"
+abbrev pub above : List Task → ℕ → ℕ → ℕ
+above tasks i t = sum (λ j. demand (row tasks j) t) i
+
+-- "For row i and a tick count t of at least 1, the load is C of row i plus" what rows above bring
 unfoldable pub load : List Task → ℕ → ℕ → ℕ
-load tasks i t = row tasks i .c + sum (λ j. demand (row tasks j) t) i
+load tasks i t = row tasks i .c + above tasks i t
 
 -- "a load of at most t"
 unfoldable pub fitsAt : List Task → ℕ → ℕ → Bool

@@ -18,7 +18,7 @@ use Rattle.law.proofs.Verdict.{pattern-of}
 use Rattle.theory.proofs.Queue.{Tick, busy, calm, Stretch, busy-start, not-lasting, not-sooner}
 use Rattle.theory.proofs.Rows.{met-over, met-chosen, owed, owed-none, urgent-is, urgent-live, done, spent-most, spent-least}
 use Rattle.theory.proofs.Clock.{demand-none, demand-add, arrived-most, arrived-least}
-use Rattle.theory.proofs.Fits.{fits-load, fits-deadline, response-least}
+use Rattle.law.proofs.Fits.{fits-load, fits-deadline, response-least}
 use Rattle.theory.proofs.Trace.{Course, taskIn, inTick, isChosen, ending, Trace}
 use Rattle.theory.proofs.Life.{tookIn, Unmissed, Keeps, took-in-time, lifeIn, tickOf, coreIn, workIn, endIn, on-clock}
 use Rattle.theory.proofs.Life.{took-low, met-then, begins, begins-work, work-left, alive, continues-as, rests-due, never-missed}

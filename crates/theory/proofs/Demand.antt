@@ -20,7 +20,7 @@ use Rattle.law.proofs.Tests.{passes, fails, known}
 use Rattle.law.proofs.Verdict.{pattern-of}
 use Rattle.theory.specs.Stated.{Stated}
 use Rattle.theory.proofs.Rows.{runWith, run-full, full-stays, released-at}
-use Rattle.theory.proofs.Fits.{response-late, fits-above, misfit-fails, admitted-fits, refused-row}
+use Rattle.law.proofs.Fits.{response-late, fits-above, misfit-fails, admitted-fits, refused-row}
 use Rattle.theory.proofs.Trace.{Course, inTick, ending, Trace, Clean, duringWith, courseOf, still-row, released-core, trace-of}
 use Rattle.theory.proofs.Life.{metAfter, tookIn, inTimeIn, Keeps, in-time-took, late-took, lifeIn, endIn, took-low, met-then}
 use Rattle.theory.proofs.Life.{missed-then, settled-last, live-kind, windows-kept}

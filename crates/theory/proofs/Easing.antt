@@ -19,7 +19,7 @@ use Rattle.law.proofs.Pattern.{even}
 use Rattle.law.proofs.Red.{red-most}
 use Rattle.law.proofs.Sums.{sum-mono}
 use Rattle.law.proofs.Tests.{known, passes, fails}
-use Rattle.theory.proofs.Fits.{fits-deadline, fits-load, response-least, response-low, response-late, admitted-fits}
+use Rattle.law.proofs.Fits.{fits-deadline, fits-load, response-least, response-low, response-late, admitted-fits}
 
 -- what a row may become
 pub record Lighter (old new : Task) : Type 0 where

@@ -1,7 +1,6 @@
 pub mod Queue
 pub mod Rows
 pub mod Clock
-pub mod Fits
 pub mod Easing
 pub mod Trace
 pub mod Life

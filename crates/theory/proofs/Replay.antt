@@ -26,7 +26,7 @@ use Rattle.law.proofs.Ticks.{task-at, tasks-length}
 use Rattle.theory.specs.Stated.{replayAfter, replayDuring, replaySettling, replayTook, replayTally, ReplayKept, ReplayNamed}
 use Rattle.theory.proofs.Rows.{stepWith, runWith, released-at}
 use Rattle.theory.proofs.Clock.{deadline-sooner}
-use Rattle.theory.proofs.Fits.{fits-deadline, admitted-fits}
+use Rattle.law.proofs.Fits.{fits-deadline, admitted-fits}
 use Rattle.theory.proofs.Trace.{Course, inTick, ending, Trace, duringWith, courseOf, still-row, released-core, trace-of}
 use Rattle.theory.proofs.Life.{is-met, metAfter, tookIn, inTimeIn, lifeIn, Keeps, missed-then, settled-last, live-kind, windows-kept}
 use Rattle.theory.proofs.Bound.{met-in-response, fits-keeps}

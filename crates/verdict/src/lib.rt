@@ -1,12 +1,16 @@
-// The verdict: whether every mandatory job of a table can meet its deadline, by the first tick at which each row's load fits.
+// The verdict: whether every mandatory job of a table can meet its deadline, by the room that rows above leave each row and the first tick at which its
+// load fits.
+ghost use mathlib.Core.List.{_++_};
 ghost use mathlib.Core.Path.{_≡_};
 ghost use Prim.Native.Nat.{_≤_, _<_};
-ghost use lib.ListN.{length, take};
+ghost use lib.ListN.{length, take, drop};
 ghost use Rattle.law.specs.Pattern.{InRange, count as countLaw, redCount};
 ghost use Rattle.law.specs.Table.{tableOf, countOf, Ranged, WellFormed};
-ghost use Rattle.law.specs.Verdict.{demand as demandLaw, load as loadLaw, misfit, responses, verdict, verdictRoom};
+ghost use Rattle.law.specs.Verdict.{demand as demandLaw, above, misfit, responses, verdict, verdictRoom};
+ghost use Rattle.law.specs.Room.{roomAt, room as roomLaw, rooms as roomsLaw, roomsAnswer, roomsLent};
 ghost use Rattle.table.specs.Said.{taskSaid};
-ghost use Rattle.verdict.specs.Said.{shown, fitOf};
+ghost use Rattle.verdict.specs.Said.{shown, measured, fitOf};
+ghost use Rattle.verdict.specs.Stretch.{nextRelease, untilOf};
 use refusal::Refusal;
 use table::Checked;
 use table::Task;
@@ -21,10 +25,23 @@ pub enum Verdict {
     Refused(Refusal),
 }
 
+// The rooms of a table: written for so many rows, or why not.
+pub enum Measured {
+    Rows(usize),
+    Refused(Refusal),
+}
+
 // What the search of a row finds.
 enum Fit {
     At(u64),
     Never,
+}
+
+// What a row, or all rows above another, bring by a tick, and the next tick, from that one on, at which they release; of the rows above, the other's D at
+// the latest.
+struct Standing {
+    pub brought: u64,
+    pub until: u64,
 }
 
 // The rows tried: the first that doesn't fit, or their number where all do; and the response times of those before it.
@@ -63,45 +80,85 @@ fn count(r: Task, q: u64) -> u64
     }
 }
 
-// What a row above brings by t: C for each mandatory job that it releases before t.
-fn demand(r: Task, t: u64) -> u64
+// What a row brings to those below it by t: C for each mandatory job that it releases before t; and its next release from t on.
+fn brings(r: Task, t: u64) -> Standing
     requires { ⌜ (Ranged (taskSaid r)) × (t ≤ 65535) ⌝ }
-    ensures { λ n. ⌜ n ≡ demandLaw (taskSaid r) t ⌝ }
+    ensures brought { λ s. ⌜ s .brought ≡ demandLaw (taskSaid r) t ⌝ }
+    ensures until { λ s. ⌜ s .until ≡ nextRelease (taskSaid r) t ⌝ }
 {
     let q = (t + (r.t - 1)) / r.t;
-    r.c * count(r, q)
+    let brought = r.c * count(r, q);
+    let until = q * r.t;
+    Standing { brought, until }
 }
 
-// The load of a row at t: its own C and what every row above brings.
-fn load(words: &[u32], row: usize, t: u64) -> u64
+// How all rows above a row stand at t: a stretch goes on until one of them releases, or the row's D.
+fn stretch(words: &[u32], row: usize, t: u64) -> Standing
     requires { ⌜ (WellFormed (tableOf (now words))) × (row < length (tableOf (now words))) × (t ≤ 65535) ⌝ }
-    ensures { λ n. ⌜ n ≡ loadLaw (tableOf (now (words .entry))) row t ⌝ }
+    ensures brought { λ r. ⌜ r .brought ≡ above (tableOf (now (words .entry))) row t ⌝ }
+    ensures until { λ r. ⌜ r .until ≡ untilOf (tableOf (now (words .entry))) row t ⌝ }
 {
-    let mut sum = task_at(words, row).c;
+    let mut brought = 0;
+    let mut until = task_at(words, row).d;
     let mut j = 0;
     while j < row {
-        sum += demand(task_at(words, j), t);
+        let s = brings(task_at(words, j), t);
+        brought += s.brought;
+        if s.until < until {
+            until = s.until;
+        }
         j += 1;
     }
-    sum
+    Standing { brought, until }
 }
 
-// The first tick that fits a row. Where the load at t is above t, no tick up to that load fits: the search goes on there.
+// What rows above leave a row of the ticks up to t.
+fn room_at(words: &[u32], row: usize, t: u64) -> u64
+    requires { ⌜ (WellFormed (tableOf (now words))) × (row < length (tableOf (now words))) × (t ≤ 65535) ⌝ }
+    ensures { λ r. ⌜ r ≡ roomAt (tableOf (now (words .entry))) row t ⌝ }
+{
+    let brought = stretch(words, row, t).brought;
+    if brought < t { t - brought } else { 0 }
+}
+
+// The search for a row's room. Within a stretch t less the load is largest at the end, so the walk goes from stretch to stretch, and leaps over those in
+// which it is at most the best found: what rows above bring never falls, so that no tick up to the best and what they bring by now gives more than the
+// best. To begin with what is left at D makes the leaps long, unless rows above fill nearly every tick.
+fn search_room(words: &[u32], row: usize) -> u64
+    requires { ⌜ (WellFormed (tableOf (now words))) × (row < length (tableOf (now words))) ⌝ }
+    ensures { λ r. ⌜ r ≡ roomLaw (tableOf (now (words .entry))) row ⌝ }
+{
+    let d = task_at(words, row).d;
+    let mut best = room_at(words, row, d);
+    let mut from = 1;
+    while from <= d {
+        let s = stretch(words, row, from);
+        if s.brought + best < s.until {
+            best = s.until - s.brought;
+        }
+        from = best + s.brought + 1;
+    }
+    best
+}
+
+// The first tick that fits a row, or that none does, which is when its C is above its room: both are the loop's answers. Where the load at t is above t, no
+// tick up to that load fits: the search goes on there.
 fn search(words: &[u32], row: usize) -> Fit
     requires { ⌜ (WellFormed (tableOf (now words))) × (row < length (tableOf (now words))) ⌝ }
     ensures { λ r. ⌜ r ≡ fitOf (tableOf (now (words .entry))) row ⌝ }
 {
-    let d = task_at(words, row).d;
+    let own = task_at(words, row);
+    let room = search_room(words, row);
     let mut t = 1;
     loop {
-        if d < t {
+        if room < own.c {
             break Fit::Never;
         }
-        let brought = load(words, row, t);
-        if brought <= t {
+        let load = own.c + stretch(words, row, t).brought;
+        if load <= t {
             break Fit::At(t);
         }
-        t = brought;
+        t = load;
     }
 }
 
@@ -150,4 +207,33 @@ pub fn judge(words: &[u32], room: &mut [u32]) -> Verdict
     let times = found.times;
     lay(&times, rows, room);
     Verdict::Admitted(rows)
+}
+
+// The room of every row, from the top, in the first words of a lent run.
+fn measure(words: &[u32], run: &mut [u32])
+    requires { ⌜ (WellFormed (tableOf (now words))) × (length (tableOf (now words)) ≤ length (now run)) ⌝ }
+    ensures { λ r. ⌜ now (run .exit) ≡ roomsLaw (tableOf (now (words .entry))) ++ drop (length (tableOf (now (words .entry)))) (now (run .entry)) ⌝ }
+{
+    let rows = words.len() / WIDTH;
+    let mut i = 0;
+    while i < rows {
+        run[i] = search_room(words, i) as u32;
+        i += 1;
+    }
+}
+
+// The rooms of a table in a lent run of words, one per row in its first words, whether the table is admitted or turned down. Refused: the run is as it was.
+pub fn rooms(words: &[u32], run: &mut [u32]) -> Measured
+    ensures answer { λ r. ⌜ measured r ≡ roomsAnswer (now (words .entry)) (length (now (run .entry))) ⌝ }
+    ensures run { λ r. ⌜ now (run .exit) ≡ roomsLent (now (words .entry)) (now (run .entry)) ⌝ }
+{
+    let rows = match check(words) {
+        Checked::Rows(rows) => rows,
+        Checked::Refused(refusal) => return Measured::Refused(refusal),
+    };
+    if run.len() < rows {
+        return Measured::Refused(Refusal::Room);
+    }
+    measure(words, run);
+    Measured::Rows(rows)
 }
