@@ -9,5 +9,6 @@ pub mod TextKept
 pub mod MissesLeft
 pub mod MarksKept
 pub mod EvenToo
+pub mod RoomsTell
 pub mod Carried
 pub mod Once

@@ -20,6 +20,8 @@ use Rattle.table.specs.declared.Checked.the-variants.{Rows as CheckedRows, Refu
 use Rattle.verdict.specs.Said as verdict
 use Rattle.verdict.specs.declared.Verdict.{Verdict}
 use Rattle.verdict.specs.declared.Verdict.the-variants.{Admitted, Refused as VerdictRefused}
+use Rattle.verdict.specs.declared.Measured.{Measured}
+use Rattle.verdict.specs.declared.Measured.the-variants.{Rows as MeasuredRows, Refused as MeasuredRefused}
 use Rattle.text.specs.Said as read
 use Rattle.text.specs.declared.read.Reading.{Reading}
 use Rattle.text.specs.declared.read.Reading.the-variants.{Rows as ReadRows, Refused as ReadRefused}
@@ -91,6 +93,14 @@ verdict-told (VerdictRefused r) = ap VerdictRefused (refusal-told r)
 
 pub verdict-once : {x y : Verdict} → verdict.shown x ≡ verdict.shown y → x ≡ y
 verdict-once = once verdict.shown (back Admitted VerdictRefused) verdict-told
+
+measured-told : (x : Measured) → back MeasuredRows MeasuredRefused (verdict.measured x) ≡ x
+unfolding back
+measured-told (MeasuredRows n) = refl
+measured-told (MeasuredRefused r) = ap MeasuredRefused (refusal-told r)
+
+pub measured-once : {x y : Measured} → verdict.measured x ≡ verdict.measured y → x ≡ y
+measured-once = once verdict.measured (back MeasuredRows MeasuredRefused) measured-told
 
 word-told : (x : Word) → back Is WordRefused (book.wordShown x) ≡ x
 unfolding back

@@ -5,4 +5,5 @@ pub mod TextKept
 pub mod MissesLeft
 pub mod MarksKept
 pub mod EvenToo
+pub mod RoomsTell
 pub mod Carried
