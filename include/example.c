@@ -1,8 +1,8 @@
 /*
- * A music stand in small: read the task text, ask for the verdict, run a second of ticks as a timer interrupt would, look at the
- * counts and at the pattern of a deeply-red row; save the state on the way and go on from the saved words; carry an old text over and
- * back; meet five refusals. Then document 01's table with measured job lengths: replay a log whole, short of numbers and in pieces, and
- * meet the refusals of that.
+ * A music stand in small: read the task text, ask for the verdict and for the room of each row, run a second of ticks as a timer
+ * interrupt would, look at the counts and at the pattern of a deeply-red row; save the state on the way and go on from the saved words;
+ * see what the rooms of a table turned down tell a planner; carry an old text over and back; meet six refusals. Then document 01's
+ * table with measured job lengths: replay a log whole, short of numbers and in pieces, and meet the refusals of that.
  *
  *     include/run
  */
@@ -56,7 +56,7 @@ static const uint32_t measured[NUMBERS] = {
 /* The same jobs at full length: what a run takes them to be. */
 static const uint32_t full_length[NUMBERS] = {2, 4, 2, 4, 2, 2, 4, 2, 4, 2};
 
-enum { SCREEN = 2, RADIO = 3 };
+enum { PEDAL = 0, SCREEN = 2, RADIO = 3 };
 static const char *const names[] = {"pedal scan", "tuner", "screen", "radio slot"};
 
 /* The words of a row behind its table, from GP_WAIT on. */
@@ -65,7 +65,10 @@ static const char *const words[] = {"wait", "place", "work", "left", "kind", "wi
 
 /* Firmware would keep these in place too: nothing here is allocated. */
 static uint32_t table[GP_TABLE_WORDS];
+static uint32_t plan[GP_TABLE_WORDS];
 static uint32_t responses[GP_ROWS_MAX];
+static uint32_t rooms[GP_ROWS_MAX];
+static uint32_t rooms_before[GP_ROWS_MAX];
 static uint64_t state[GP_STATE_WORDS];
 static uint64_t saved[GP_STATE_WORDS];
 static uint64_t whole_state[GP_STATE_WORDS];
@@ -98,12 +101,16 @@ static size_t read_table(void)
     return rows;
 }
 
+/* Room is t less the load of the rows above by t, at the best t up to D. By hand: 2 for the pedal scan, which has no row above; 20 - 4
+   for the tuner, at t = 20; 40 - 8 - 12 for the screen, at 40; 100 - 20 - 24 - 28 for the radio slot, at 100. */
 static void judge(size_t rows)
 {
     wanted("verdict", gp_verdict(table, rows * GP_TASK_WORDS, responses, GP_ROWS_MAX));
+    wanted("rooms", gp_rooms(table, rows * GP_TASK_WORDS, rooms, GP_ROWS_MAX));
     printf("verdict: admitted\n");
     for (size_t row = 0; row < rows; row++)
-        printf("  %s: id=%" PRIu32 " r=%" PRIu32 "\n", names[row], table[row * GP_TASK_WORDS + GP_ID], responses[row]);
+        printf("  %s: id=%" PRIu32 " r=%" PRIu32 " room=%" PRIu32 "\n", names[row], table[row * GP_TASK_WORDS + GP_ID], responses[row],
+               rooms[row]);
 }
 
 /* Notes the kind of a job that the radio slot has just released. Its work outlasts the tick of its release, so it is live here. */
@@ -185,6 +192,58 @@ static void show_screen(size_t rows, uint32_t p)
     if (answer.refusal == GP_P_RANGE)
         printf(", no such pattern for the %s", names[answer.value]);
     printf("\n");
+}
+
+/* The rooms of a table of so many rows, admitted or not. */
+static void show_rooms(const uint32_t *judged, size_t rows)
+{
+    wanted("rooms", gp_rooms(judged, rows * GP_TASK_WORDS, rooms, GP_ROWS_MAX));
+    printf("rooms:");
+    for (size_t row = 0; row < rows; row++)
+        printf(" %" PRIu32, rooms[row]);
+    printf("\n");
+}
+
+/* What a planner tries: the verdict on a copy of the table with another C in one row. */
+static void try_c(size_t rows, size_t row, uint32_t c)
+{
+    memcpy(plan, table, sizeof plan);
+    plan[row * GP_TASK_WORDS + GP_C] = c;
+    struct gp_answer answer = gp_verdict(plan, rows * GP_TASK_WORDS, responses, GP_ROWS_MAX);
+    printf("  a %s of c=%" PRIu32 ": ", names[row], c);
+    if (answer.refusal == GP_ACCEPTED)
+        printf("admitted, r=%" PRIu32 "\n", responses[row]);
+    else
+        printf("refused=%" PRIu64 " at=%" PRIu64 "\n", answer.refusal, answer.value);
+}
+
+/* The table turned down, with the deeply-red screen. The radio slot asks for 20 and has 80 - 16 - 18 - 28 = 18, at t = 80; at 100 it is
+   100 - 20 - 24 - 42 = 14. So it fits with a C of 18, and not with 19. */
+static void plan_radio(size_t rows)
+{
+    show_rooms(table, rows);
+    uint32_t room = rooms[RADIO];
+    try_c(rows, RADIO, room);
+    try_c(rows, RADIO, room + 1);
+}
+
+/* A pedal scan of 3, above its D, is the row named, and the rows below it have rooms all the same: 20 - 12 for the tuner, at t = 20, and
+   40 - 24 - 12 for the screen, at 40. What is left for the radio slot is never positive, so its room is 0. */
+static void plan_pedal(size_t rows)
+{
+    try_c(rows, PEDAL, 3);
+    show_rooms(plan, rows);
+}
+
+/* Words for all rows but one: refused, and the words that were lent are as they were. No room is as large as what they hold. */
+static void show_short(size_t rows)
+{
+    memset(rooms, 0xFF, sizeof rooms);
+    memcpy(rooms_before, rooms, sizeof rooms);
+    struct gp_answer answer = gp_rooms(table, rows * GP_TASK_WORDS, rooms, rows - 1);
+    int same = memcmp(rooms, rooms_before, sizeof rooms) == 0;
+    printf("rooms of %zu rows in %zu words: refused=%" PRIu64 ", %s\n", rows, rows - 1, answer.refusal,
+           same ? "the same words" : "other words");
 }
 
 /* An old text is not guessed to be one: reading it meets a fault where the first line p would stand. Carried over it is read, and
@@ -397,6 +456,9 @@ int main(void)
     restore();
     show_earlier();
     show_screen(rows, GP_DEEPLY_RED);
+    plan_radio(rows);
+    plan_pedal(rows);
+    show_short(rows);
     show_screen(rows, 2);
     carry_old();
     show_not_old();

@@ -4,16 +4,17 @@
  * The functions of `crates/stand_c`, built into `target/staticlib/libstand_c.a` by `rt staticlib stand_c` for x86-64 Linux (the
  * System V calling convention, a 64-bit size_t). Each of them is proved to give the answer that document 01 names (spare: document 02,
  * 1/14; the stored number of met marks: 2/14; the two patterns: 3/14; old texts carried over and back: 4/14; a replay with measured
- * job lengths: 5/14), on every input, provided that the caller keeps to "What a caller owes" below and the compiler's back end is
- * right.
+ * job lengths: 5/14; the room of a row: 7/14), on every input, provided that the caller keeps to "What a caller owes" below and the
+ * compiler's back end is right.
  *
  * What the functions do not do: allocate, keep anything between calls, read or write anything but the lent runs, stop or jump out.
  * They can be called at the same time on different runs. The archive has no writable data, and the only outside symbols it asks for
  * are memcpy and memset.
  *
  * Stack, measured at 32 rows: gp_word, gp_tick and gp_run lay the pattern book there, up to 17,368 bytes in all; gp_replay also a
- * copy of the state, 22,488 bytes; gp_report also holds a table, a state and what it prints, 28,920 bytes; gp_to_old 4,472, gp_to_new
- * 3,544, gp_write 1,688, gp_read 1,288, gp_verdict 624; gp_job, gp_check, gp_fresh, gp_well, gp_counts and gp_held under 150.
+ * copy of the state, 22,488 bytes; gp_report also holds a table, a state and what it prints, 29,560 bytes; gp_to_old
+ * 4,472, gp_to_new 3,544, gp_write 1,688, gp_read 1,288, gp_verdict 688, gp_rooms 192; gp_job, gp_check, gp_fresh,
+ * gp_well, gp_counts and gp_held under 150.
  *
  * Answers. Every function hands back two numbers, gp_replay a third behind them. Where `refusal` is 0, the call was accepted and
  * `value` is its answer. Otherwise `refusal` is a number of documents 01 and 02 (enum gp_refusal), and `value` is the row or the place
@@ -62,7 +63,7 @@ extern "C" {
    gp_report. */
 #define GP_TEXT_BYTES 1512
 #define GP_OLD_TEXT_BYTES 1384
-#define GP_REPORT_BYTES 5120
+#define GP_REPORT_BYTES 5632
 
 /* The last time of the clock. */
 #define GP_CLOCK_END UINT32_C(4294967295)
@@ -190,10 +191,25 @@ struct gp_answer gp_check(const uint32_t *words, size_t words_length);
 
 /*
  * The verdict on a table. Value: its number of rows; the room then holds the response times, one word a row, from the start.
- * GP_ROWS_MAX words are room for every table.
+ * GP_ROWS_MAX words are room for every table. Of a table turned down, gp_rooms tells by how much the row named is too long.
  * Refusals: 1, 2, 3, then row by row 4 to 9 in number order, 16, 10; then 13, 11.
  */
 struct gp_answer gp_verdict(const uint32_t *words, size_t words_length, uint32_t *room, size_t room_length);
+
+/*
+ * The rooms of a table's rows, admitted or not. A row's room is a number of ticks: the largest value, over t from 1 to its D, of t less
+ * the load that rows above bring by t, or 0 if that is never positive. Value: the number of rows; the lent words then hold the rooms,
+ * one word a row, from the start. GP_ROWS_MAX words are enough for every table.
+ *
+ * A row fits exactly when its C is at most its room. So C of a row may be raised to its room, the rows above left as they are; at
+ * room + 1 the row is the first that does not fit, if those above fit, and gp_verdict names it. (Above a room of 65535 there is no C:
+ * 65536 is refused with 7.) With a room of 0 a row fits with no C. The room of row 0 is its D. Of its own words, only D plays a part in
+ * a row's room. A higher C takes room from the rows below, and the verdict on them may turn; the last row has none below.
+ *
+ * A table that gp_verdict turns down has its rooms too, also those of the rows below the one that is named.
+ * Refusals: 1, 2, 3, then row by row 4 to 9 in number order, 16, 10; then 13. Never 11.
+ */
+struct gp_answer gp_rooms(const uint32_t *words, size_t words_length, uint32_t *room, size_t room_length);
 
 /*
  * The fresh state of a table, admitted or not, in the first GP_STATE_WORDS words of the room. Value: its number of rows.
@@ -295,7 +311,8 @@ struct gp_answer gp_to_old(const uint8_t *text, size_t text_length, uint8_t *roo
 /*
  * The printing program: from its input, a line `ticks=N` and a task text, to all that it prints. Value: the length of what is
  * printed, which stands in the room from the start, with no 0 behind it. A refusal of the input is printed too, and is no refusal
- * of this call. GP_REPORT_BYTES bytes are always enough.
+ * of this call. Since 7/14 a line `room=` follows the line `r=` of every row, with what gp_rooms tells of it, also in a table turned
+ * down. GP_REPORT_BYTES bytes are always enough.
  * Refusals: 13.
  */
 struct gp_answer gp_report(const uint8_t *input, size_t input_length, uint8_t *room, size_t room_length);

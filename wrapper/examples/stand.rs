@@ -1,9 +1,10 @@
-//! A music stand in small: read the task text, ask for the verdict, run a second of ticks as a timer interrupt would, look at the
-//! counts and at the pattern of a deeply-red row; save the state on the way and go on from the saved words; carry an old text over
-//! and back; meet five refusals. Then document 01's table with measured job lengths: replay a log whole, short of numbers and in
-//! pieces, and meet the refusals of that. It prints what `include/example.c` prints.
+//! A music stand in small: read the task text, ask for the verdict and for the room of each row, run a second of ticks as a timer
+//! interrupt would, look at the counts and at the pattern of a deeply-red row; save the state on the way and go on from the saved
+//! words; see what the rooms of a table turned down tell a planner; carry an old text over and back; meet six refusals. Then document
+//! 01's table with measured job lengths: replay a log whole, short of numbers and in pieces, and meet the refusals of that. It prints
+//! what `include/example.c` prints.
 
-use galleypoppy::{job, read, to_new, to_old, verdict, write};
+use galleypoppy::{job, read, rooms, to_new, to_old, verdict, write};
 use galleypoppy::{Field, Kind, Pattern, Refusal, Replayed, State};
 use galleypoppy::{OLD_TEXT_BYTES, ROWS_MAX, STATE_WORDS, TABLE_WORDS, TASK_WORDS, TEXT_BYTES};
 
@@ -59,6 +60,7 @@ const WORDS: [(&str, Field); 13] = [
     ("held", Field::Held),
 ];
 
+const PEDAL: usize = 0;
 const SCREEN: usize = 2;
 const RADIO: usize = 3;
 const NAMES: [&str; 4] = ["pedal scan", "tuner", "screen", "radio slot"];
@@ -77,12 +79,16 @@ fn read_table(room: &mut [u32]) -> Result<&[u32], Refusal> {
     Ok(table)
 }
 
+/// Room is t less the load of the rows above by t, at the best t up to D. By hand: 2 for the pedal scan, which has no row above; 20 -
+/// 4 for the tuner, at t = 20; 40 - 8 - 12 for the screen, at 40; 100 - 20 - 24 - 28 for the radio slot, at 100.
 fn judge(table: &[u32]) -> Result<(), Refusal> {
-    let mut room = [0; ROWS_MAX];
-    let responses = verdict(table, &mut room)?;
+    let (mut for_responses, mut for_rooms) = ([0; ROWS_MAX], [0; ROWS_MAX]);
+    let responses = verdict(table, &mut for_responses)?;
+    let rooms = rooms(table, &mut for_rooms)?;
     println!("verdict: admitted");
-    for ((name, row), r) in NAMES.iter().zip(table.chunks(TASK_WORDS)).zip(responses) {
-        println!("  {name}: id={} r={r}", row[0]);
+    let figures = responses.iter().zip(rooms);
+    for ((name, row), (r, room)) in NAMES.iter().zip(table.chunks(TASK_WORDS)).zip(figures) {
+        println!("  {name}: id={} r={r} room={room}", row[0]);
     }
     Ok(())
 }
@@ -207,6 +213,65 @@ fn show_screen(table: &mut [u32], p: u32) {
         }
         other => println!("{other:?}"),
     }
+}
+
+/// The rooms of a table, admitted or not, shown.
+fn show_rooms(table: &[u32]) -> Result<Vec<u32>, Refusal> {
+    let mut room = [0; ROWS_MAX];
+    let rooms = rooms(table, &mut room)?;
+    print!("rooms:");
+    for room in rooms {
+        print!(" {room}");
+    }
+    println!();
+    Ok(rooms.to_vec())
+}
+
+/// What a planner tries: the verdict on a copy of the table with another C in one row.
+fn try_c(table: &[u32], row: usize, c: u32) -> Vec<u32> {
+    let mut plan = table.to_vec();
+    plan[row * TASK_WORDS + 1] = c;
+    print!("  a {} of c={c}: ", NAMES[row]);
+    match verdict(&plan, &mut [0; ROWS_MAX]) {
+        Ok(responses) => println!("admitted, r={}", responses[row]),
+        Err(Refusal::Unschedulable(at)) => println!("refused=11 at={at}"),
+        other => println!("{other:?}"),
+    }
+    plan
+}
+
+/// The table turned down, with the deeply-red screen. The radio slot asks for 20 and has 80 - 16 - 18 - 28 = 18, at t = 80; at 100 it
+/// is 100 - 20 - 24 - 42 = 14. So it fits with a C of 18, and not with 19.
+fn plan_radio(table: &[u32]) -> Result<(), Refusal> {
+    let room = show_rooms(table)?[RADIO];
+    try_c(table, RADIO, room);
+    try_c(table, RADIO, room + 1);
+    Ok(())
+}
+
+/// A pedal scan of 3, above its D, is the row named, and the rows below it have rooms all the same: 20 - 12 for the tuner, at t = 20,
+/// and 40 - 24 - 12 for the screen, at 40. What is left for the radio slot is never positive, so its room is 0.
+fn plan_pedal(table: &[u32]) -> Result<(), Refusal> {
+    let plan = try_c(table, PEDAL, 3);
+    show_rooms(&plan)?;
+    Ok(())
+}
+
+/// Words for all rows but one: refused, and the words that were lent are as they were. No room is as large as what they hold.
+fn show_short(table: &[u32]) {
+    let rows = table.len() / TASK_WORDS;
+    let mut room = [u32::MAX; ROWS_MAX];
+    print!("rooms of {rows} rows in {} words: ", rows - 1);
+    match rooms(table, &mut room[..rows - 1]) {
+        Err(refusal) => print!("refused={}", refusal.number()),
+        other => print!("{other:?}"),
+    }
+    let same = if room == [u32::MAX; ROWS_MAX] {
+        "the same words"
+    } else {
+        "other words"
+    };
+    println!(", {same}");
 }
 
 /// An old text is not guessed to be one: reading it meets a fault where the first line p would stand. Carried over it is read, and
@@ -391,6 +456,9 @@ fn main() -> Result<(), Refusal> {
     show_earlier(second.saved.words());
     let words = table.len();
     show_screen(&mut room[..words], Pattern::DeeplyRed.p());
+    plan_radio(&room[..words])?;
+    plan_pedal(&room[..words])?;
+    show_short(&room[..words]);
     show_screen(&mut room[..words], 2);
     carry_old()?;
     show_not_old();

@@ -52,6 +52,12 @@ unsafe extern "C" {
         room: *mut u32,
         room_length: usize,
     ) -> Answer;
+    fn gp_rooms(
+        words: *const u32,
+        words_length: usize,
+        room: *mut u32,
+        room_length: usize,
+    ) -> Answer;
     fn gp_fresh(
         table: *const u32,
         table_length: usize,
@@ -109,6 +115,11 @@ pub fn check(words: &[u32]) -> Result<u64, Refusal> {
 pub fn verdict(words: &[u32], room: &mut [u32]) -> Result<u64, Refusal> {
     // SAFETY: both are slices, borrowed for the call; the room, borrowed mutably, overlaps nothing.
     unsafe { gp_verdict(words.as_ptr(), words.len(), room.as_mut_ptr(), room.len()) }.taken()
+}
+
+pub fn rooms(words: &[u32], room: &mut [u32]) -> Result<u64, Refusal> {
+    // SAFETY: both are slices, borrowed for the call; the room, borrowed mutably, overlaps nothing.
+    unsafe { gp_rooms(words.as_ptr(), words.len(), room.as_mut_ptr(), room.len()) }.taken()
 }
 
 pub fn fresh(table: &[u32], room: &mut [u64]) -> Result<u64, Refusal> {

@@ -9,7 +9,7 @@ pub const TEXT_BYTES: usize = 1512;
 pub const OLD_TEXT_BYTES: usize = 1384;
 
 /// Bytes of a room that is always enough for [`report`].
-pub const REPORT_BYTES: usize = 5120;
+pub const REPORT_BYTES: usize = 5632;
 
 /// Reads a task text, of a row the lines id, c, t, d, m, k, p: the table, seven words a row, from the start of the room.
 /// [`TABLE_WORDS`](crate::TABLE_WORDS) words are room for every table. A text that was accepted before 3/14, with no line p, is
@@ -89,7 +89,8 @@ pub fn to_old<'a>(text: &[u8], room: &'a mut [u8]) -> Result<&'a [u8], Refusal> 
 }
 
 /// The printing program: from its input, a line `ticks=N` and a task text, to all that it prints, from the start of the room. A
-/// refusal of the input is printed too. [`REPORT_BYTES`] bytes are always enough.
+/// refusal of the input is printed too. Since 7/14 a line `room=` follows the line `r=` of every row, with what
+/// [`rooms`](crate::rooms) tells of it, also in a table turned down. [`REPORT_BYTES`] bytes are always enough.
 ///
 /// ```
 /// let mut room = [0; galleypoppy::REPORT_BYTES];

@@ -1,7 +1,7 @@
 //! Each refusal of documents 01 and 02 through the function that gives it, the order where several apply, and what a refusal leaves
 //! alone.
 
-use galleypoppy::{check, counts, fresh, held, job, read, report, run, tick, verdict};
+use galleypoppy::{check, counts, fresh, held, job, read, report, rooms, run, tick, verdict};
 use galleypoppy::{well, word, write, Refusal, State, STATE_WORDS};
 
 const ROW: [u32; 7] = [5, 1, 10, 10, 1, 2, 0];
@@ -47,6 +47,7 @@ fn where_p_stands_in_the_order() {
     // Then 13.
     let p_2 = spoilt(6, 2);
     assert_eq!(verdict(&p_2, &mut []), Err(Refusal::P(1)));
+    assert_eq!(rooms(&p_2, &mut []), Err(Refusal::P(1)));
     assert_eq!(fresh(&p_2, &mut []), Err(Refusal::P(1)));
     assert_eq!(write(&p_2, &mut []), Err(Refusal::P(1)));
 }
@@ -83,13 +84,16 @@ fn one_job() {
     assert_eq!(word(0, 64), Err(Refusal::M(0)));
 }
 
-/// The table's refusals come before 13, and 13 before 11.
+/// The table's refusals come before 13, and 13 before 11, which the rooms have not.
 #[test]
 fn short_room() {
     let unfit = [5, 11, 10, 10, 1, 2, 0];
     assert_eq!(verdict(&unfit, &mut []), Err(Refusal::Room));
     assert_eq!(verdict(&unfit, &mut [0]), Err(Refusal::Unschedulable(0)));
     assert_eq!(verdict(&spoilt(2, 0), &mut []), Err(Refusal::T(1)));
+    assert_eq!(rooms(&unfit, &mut []), Err(Refusal::Room));
+    assert_eq!(rooms(&unfit, &mut [0]), Ok(&[10][..]));
+    assert_eq!(rooms(&spoilt(2, 0), &mut []), Err(Refusal::T(1)));
     assert_eq!(fresh(&ROW, &mut [0; STATE_WORDS - 1]), Err(Refusal::Room));
     assert_eq!(fresh(&[], &mut []), Err(Refusal::NoRows));
     assert_eq!(write(&ROW, &mut [0; 8]), Err(Refusal::Room));
@@ -177,6 +181,8 @@ fn a_refusal_leaves_the_room() {
         verdict(&spoilt(1, 60), &mut room),
         Err(Refusal::Unschedulable(1))
     );
+    assert_eq!(rooms(&spoilt(0, 5), &mut room), Err(Refusal::Repeated(1)));
+    assert_eq!(rooms(&spoilt(0, 7), &mut room[..1]), Err(Refusal::Room));
     assert_eq!(
         read(b"rows=1\nid=5\nc=1\n", &mut room),
         Err(Refusal::Text(16))

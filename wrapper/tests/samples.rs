@@ -3,7 +3,7 @@
 use std::fs;
 use std::path::{Path, PathBuf};
 
-use galleypoppy::{read, report, verdict, write, Refusal, State};
+use galleypoppy::{read, report, rooms, verdict, write, Refusal, State};
 use galleypoppy::{REPORT_BYTES, ROWS_MAX, TABLE_WORDS, TASK_WORDS, TEXT_BYTES};
 
 fn folder() -> PathBuf {
@@ -37,7 +37,7 @@ fn parts(input: &[u8]) -> (u32, &[u8]) {
     (ticks.parse().expect("a number"), &input[end + 1..])
 }
 
-/// The lines of an admitted or unschedulable table, put together from verdict, state and counts.
+/// The lines of an admitted or unschedulable table, put together from verdict, rooms, state and counts.
 fn assembled(ticks: u32, table: &[u32]) -> Result<String, Refusal> {
     let mut room = [0; ROWS_MAX];
     let mut out = match verdict(table, &mut room) {
@@ -47,12 +47,15 @@ fn assembled(ticks: u32, table: &[u32]) -> Result<String, Refusal> {
             refusal.at().expect("a row")
         ),
     };
+    let mut for_rooms = [0; ROWS_MAX];
+    let rooms = rooms(table, &mut for_rooms)?;
     let mut state = State::fresh(table)?;
     state.run(ticks)?;
     out += &format!("ticks={}\nidle={}\n", state.time(), state.idle());
     for (row, words) in table.chunks(TASK_WORDS).enumerate() {
         let count = state.counts(row).expect("a row");
         out += &format!("row={row}\nid={}\nr={}\n", words[0], room[row]);
+        out += &format!("room={}\n", rooms[row]);
         out += &format!(
             "released={}\nmm={}\nmx={}\n",
             count.released, count.mm, count.mx

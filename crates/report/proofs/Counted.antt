@@ -46,13 +46,13 @@ counts-small {time} {r} s early =
 pub record Printing (tasks : List Task) (s : State) (old : List ℕ) (at : ℕ) (out : List ℕ) (next i : ℕ) : Type 0 where
   pub place : next ≡ at + length (rowsPrinted tasks s i)
   pub bytes : out ≡ putAt old at (rowsPrinted tasks s i)
-  pub few : next ≤ at + i * 153
+  pub few : next ≤ at + i * 169
 
 pub printing-start : (tasks : List Task) (s : State) (old : List ℕ) (at : ℕ) → Printing tasks s old at old at 0
 unfolding rowsPrinted
 printing-start tasks s old at = record { place = omega arith; bytes = sym (put-none old at); few = omega arith }
 
-module _ {tasks : List Task} {s : State} {old : List ℕ} {at : ℕ} {out : List ℕ} {next i : ℕ} (p : Printing tasks s old at out next i) (room : at + i * 153 ≤ length old) where
+module _ {tasks : List Task} {s : State} {old : List ℕ} {at : ℕ} {out : List ℕ} {next i : ℕ} (p : Printing tasks s old at out next i) (room : at + i * 169 ≤ length old) where
   pub printing-long : length out ≡ length old
   printing-long = ap length (p .bytes) ∙ put-length old at (rowsPrinted tasks s i) (omega (arith, p .place, p .few))
 

@@ -1,4 +1,4 @@
--- The verdict on a good table, as it is printed: the two answers told apart, and the response times that stand in a room of zeros.
+-- The verdict on a good table, as it is printed: the two answers told apart, and the response times and the rooms that stand in runs of zeros.
 use mathlib.Core.Bool.{true, false}
 use mathlib.Core.List.{List, [], _∷_, _++_}
 use mathlib.Core.Path.{_≡_, sym, ap, _∙_}
@@ -10,12 +10,14 @@ use borrow.Author.Tests.{eqb-true, eqb-false}
 use Rattle.law.specs.Refusal.{Answer, accepted, refused, codeOf}
 use Rattle.law.specs.Table.{tableOf, row, Ranged}
 use Rattle.law.specs.Verdict.{admitted, misfit, response, responses, verdict, verdictRoom}
+use Rattle.law.specs.Room.{room, rooms, roomsLent}
 use Rattle.law.specs.Report.{admittedLine, unschedulableLine, atKey, numberLines, verdictPrinted, responsePrinted}
 use Rattle.law.proofs.Tests.{passes, fails, known}
 use Rattle.law.proofs.First.{build-length, build-at}
 use Rattle.law.proofs.Table.{checked-accepted}
 use Rattle.law.proofs.Verdict.{misfit-most, verdict-late, verdict-admitted}
-use Rattle.report.specs.Said.{Good, Responded}
+use Rattle.law.proofs.Room.{rooms-told}
+use Rattle.report.specs.Said.{Good, Responded, Roomed}
 
 -- what a refusal also returns
 alsoIn : Answer → List ℕ
@@ -28,6 +30,19 @@ module _ {words : List ℕ} (good : Good words) where
 
   pub good-ranged : (i : ℕ) → i < length (tableOf words) → Ranged (row (tableOf words) i)
   good-ranged i h = checked-accepted words (good .values) (good .is) .table .ranged i h
+
+  -- the rooms stand in a run of zeros, whatever the verdict
+  pub roomed : Roomed (tableOf words) (roomsLent words (replicate 32 0))
+  unfolding rooms
+  roomed =
+      let e = rooms-told words (replicate 32 0) (good .values) (good .is) (omega (arith, good-few, length-replicate {A = ℕ} 32 0)) .1 in
+      let n = build-length (room (tableOf words)) (length (tableOf words)) in
+      record {
+        enough = omega (arith, ap length e, length-append (rooms (tableOf words)) (drop (length (tableOf words)) (replicate 32 0)), n);
+        at = λ i h. ap (λ (z : List ℕ). getD z i 0) e
+            ∙ List·getD-append (rooms (tableOf words)) _ 0 i (omega (arith, n))
+            ∙ build-at (room (tableOf words)) (length (tableOf words)) i 0 h;
+      }
 
   module _ (all : admitted (tableOf words) ≡ true) where
     fit : misfit (tableOf words) ≡ length (tableOf words)

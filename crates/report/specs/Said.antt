@@ -8,6 +8,7 @@ use lib.ListN.{length, getD}
 use Rattle.law.specs.Sums.{every}
 use Rattle.law.specs.Refusal.{accepted}
 use Rattle.law.specs.Table.{Task, checked}
+use Rattle.law.specs.Room.{room}
 use Rattle.law.specs.Report.{responsePrinted}
 
 -- numbers of 32 bits
@@ -19,7 +20,15 @@ pub record Good (words : List ℕ) : Type 0 where
   pub values : List ℕ
   pub is : checked words ≡ accepted values
 
--- the response times that are printed, row by row
-pub record Responded (tasks : List Task) (times : List ℕ) : Type 0 where
-  pub enough : length tasks ≤ length times
-  pub at : (i : ℕ) → i < length tasks → getD times i 0 ≡ responsePrinted tasks i
+-- a figure for each row, row by row
+pub record Listed (rows : ℕ) (figure : ℕ → ℕ) (words : List ℕ) : Type 0 where
+  pub enough : rows ≤ length words
+  pub at : (i : ℕ) → i < rows → getD words i 0 ≡ figure i
+
+-- the response times that are printed
+abbrev pub Responded : List Task → List ℕ → Type 0
+Responded tasks times = Listed (length tasks) (responsePrinted tasks) times
+
+-- the rooms
+abbrev pub Roomed : List Task → List ℕ → Type 0
+Roomed tasks rooms = Listed (length tasks) (room tasks) rooms

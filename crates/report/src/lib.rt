@@ -26,7 +26,7 @@ pub enum Printed {
 
 // All that is printed, put into a run of bytes that has room for every answer.
 fn print_all(input: &[u8], out: &mut [u8]) -> usize
-    requires { ⌜ length (now out) ≡ 5120 ⌝ }
+    requires { ⌜ length (now out) ≡ 5632 ⌝ }
     ensures place { λ n. ⌜ n ≡ length (printed (now (input .entry))) ⌝ }
     ensures bytes { λ n. ⌜ now (out .exit) ≡ putAt (now (out .entry)) 0 (printed (now (input .entry))) ⌝ }
 {
@@ -46,7 +46,7 @@ pub fn report(input: &[u8], room: &mut [u8]) -> Printed
     ensures answer { λ r. ⌜ shown r ≡ reportAnswer (now (input .entry)) (length (now (room .entry))) ⌝ }
     ensures room { λ r. ⌜ now (room .exit) ≡ reportRoom (now (input .entry)) (now (room .entry)) ⌝ }
 {
-    let mut out = [0u8; 5120];
+    let mut out = [0u8; 5632];
     let length = print_all(input, &mut out);
     if room.len() < length {
         return Printed::Refused(Refusal::Room);

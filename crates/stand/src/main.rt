@@ -5,11 +5,11 @@ use report::Printed;
 use report::report;
 
 // No more than 1,848 bytes of an input are looked at (`printed-cut`, crates/law/proofs/Report.antt), and nothing printed is longer than
-// 5,120 bytes (`printed-most`, there too): longer input may be cut, and the room never is too short.
+// 5,632 bytes (`printed-most`, there too): longer input may be cut, and the room never is too short.
 fn main() {
     let mut input = [0u8; 2048];
     let n = io::read_full(STDIN_FILENO, &mut input);
-    let mut out = [0u8; 5120];
+    let mut out = [0u8; 5632];
     let Printed::Length(m) = report(&input[..n], &mut out) else {
         return;
     };

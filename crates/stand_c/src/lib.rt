@@ -4,6 +4,7 @@ ghost use lib.ListN.{length};
 ghost use Rattle.law.specs.Pattern.{question, pairWord};
 ghost use Rattle.law.specs.Table.{checked};
 ghost use Rattle.law.specs.Verdict.{verdict as verdictLaw, verdictRoom};
+ghost use Rattle.law.specs.Room.{roomsAnswer, roomsLent};
 ghost use Rattle.law.specs.Reading.{readAnswer, readRoom, writeAnswer, writeRoom};
 ghost use Rattle.law.specs.Carry.{toNewAnswer, toNewRoom, toOldAnswer, toOldRoom};
 ghost use Rattle.law.specs.Report.{reportAnswer, reportRoom};
@@ -24,6 +25,7 @@ use report::Printed;
 use table::Checked;
 use text::read::Reading;
 use text::write::Written;
+use verdict::Measured;
 use verdict::Verdict;
 
 // Every answer: `refusal` is 0 and `value` the answer's value, or `refusal` is the number that documents 01 and 02 give
@@ -110,6 +112,21 @@ pub extern "C" fn gp_verdict(words: &[u32], room: &mut [u32]) -> Answer
             value: rows as u64,
         },
         Verdict::Refused(r) => refused(r),
+    }
+}
+
+// The rooms of a table's rows, admitted or turned down: its number of rows, and the rooms in the first words of the room.
+#[no_mangle]
+pub extern "C" fn gp_rooms(words: &[u32], room: &mut [u32]) -> Answer
+    ensures answer { λ a. ⌜ a ≡ numbered (roomsAnswer (now (words .entry)) (length (now (room .entry)))) ⌝ }
+    ensures room { λ a. ⌜ now (room .exit) ≡ roomsLent (now (words .entry)) (now (room .entry)) ⌝ }
+{
+    match verdict::rooms(words, room) {
+        Measured::Rows(rows) => Answer {
+            refusal: 0,
+            value: rows as u64,
+        },
+        Measured::Refused(r) => refused(r),
     }
 }
 
@@ -272,7 +289,7 @@ pub extern "C" fn gp_held(state: &[u64], row: u32) -> Answer
     }
 }
 
-// The printing program as a function: the length of what it prints for an input, and the bytes in the first bytes of the room. A room of 5,120
+// The printing program as a function: the length of what it prints for an input, and the bytes in the first bytes of the room. A room of 5,632
 // bytes is always long enough.
 #[no_mangle]
 pub extern "C" fn gp_report(input: &[u8], room: &mut [u8]) -> Answer

@@ -33,6 +33,7 @@ fn answer(case: &[u64]) {
         12 => texts::to_new(case),
         13 => texts::to_old(case),
         14 => run::replay(case),
+        15 => ask::rooms(case),
         _ => {}
     }
     io::write_all(STDOUT_FILENO, b"\n");
@@ -59,7 +60,7 @@ fn answer_all(text: &[u8]) {
 }
 
 fn main() {
-    let mut text = [0u8; 524288];
+    let mut text = [0u8; 589824];
     let n = io::read_full(STDIN_FILENO, &mut text);
     answer_all(&text[..n]);
 }

@@ -19,7 +19,7 @@ abbrev text : tie.After-print-all → List ℕ
 text p = printed (start p .args .input .now)
 
 front : (p : tie.After-print-all) → take (p .print-all .result) (p .print-all .last .1 .0) ≡ text p
-front p = front-taken (replicate 5120 0) (text p) (p .print-all .ensures .1) (p .print-all .ensures .0)
+front p = front-taken (replicate 5632 0) (text p) (p .print-all .ensures .1) (p .print-all .ensures .0)
 
 slice-aggregate-print-all : tie.Need-slice-aggregate-print-all
 slice-aggregate-print-all c = search needs

@@ -1,4 +1,4 @@
--- `report::print::print_row` meets its contract: ten lines, each behind the one before.
+-- `report::print::print_row` meets its contract: eleven lines, each behind the one before.
 use mathlib.Core.List.{List, [], _∷_}
 use Prim.Native.Nat.{ℕ, _≤_}
 use native.Mathlib.Omega.{arith}
@@ -12,7 +12,7 @@ use Rattle.report.proofs.print.print_row.Statement.{statement}
 use Rattle.report.proofs.print.print_row.Tie as tie
 
 abbrev values : tie.Start → List ℕ
-values s = s .args .i ∷ s .args .id ∷ s .args .r ∷ countsSaid (s .args .c)
+values s = s .args .i ∷ s .args .id ∷ s .args .r ∷ s .args .room ∷ countsSaid (s .args .c)
 
 -- the first n lines stand, in so many bytes at most
 abbrev Upto : tie.Start → ℕ → ℕ → List ℕ → ℕ → Type 0
@@ -39,40 +39,45 @@ put3 c =
     let s = c .before .before .before .before .before .before .before .before .before .before .before .before .before .before in
     lined-next (put2 (c .before .before .before .before .before)) (key 2) (getD (values s) 2 0) (omega (arith, s .pre .0)) (c .put-line3 .ensures .0, c .put-line3 .ensures .1)
 
-put4 : (c : tie.After-put-line4) → Upto (c .before .before .before .before .before .before .before .before .before .before .before .before .before .before .before .before .before .before .before) 4 62 (c .put-line4 .last .0) (c .put-line4 .result)
+put4 : (c : tie.After-put-line4) → Upto (c .before .before .before .before .before .before .before .before .before .before .before .before .before .before .before .before .before .before .before) 4 58 (c .put-line4 .last .0) (c .put-line4 .result)
 put4 c =
     let s = c .before .before .before .before .before .before .before .before .before .before .before .before .before .before .before .before .before .before .before in
     lined-next (put3 (c .before .before .before .before .before)) (key 3) (getD (values s) 3 0) (omega (arith, s .pre .0)) (c .put-line4 .ensures .0, c .put-line4 .ensures .1)
 
-put5 : (c : tie.After-put-line5) → Upto (c .before .before .before .before .before .before .before .before .before .before .before .before .before .before .before .before .before .before .before .before .before .before .before .before) 5 76 (c .put-line5 .last .0) (c .put-line5 .result)
+put5 : (c : tie.After-put-line5) → Upto (c .before .before .before .before .before .before .before .before .before .before .before .before .before .before .before .before .before .before .before .before .before .before .before .before) 5 78 (c .put-line5 .last .0) (c .put-line5 .result)
 put5 c =
     let s = c .before .before .before .before .before .before .before .before .before .before .before .before .before .before .before .before .before .before .before .before .before .before .before .before in
     lined-next (put4 (c .before .before .before .before .before)) (key 4) (getD (values s) 4 0) (omega (arith, s .pre .0)) (c .put-line5 .ensures .0, c .put-line5 .ensures .1)
 
-put6 : (c : tie.After-put-line6) → Upto (c .before .before .before .before .before .before .before .before .before .before .before .before .before .before .before .before .before .before .before .before .before .before .before .before .before .before .before .before .before) 6 90 (c .put-line6 .last .0) (c .put-line6 .result)
+put6 : (c : tie.After-put-line6) → Upto (c .before .before .before .before .before .before .before .before .before .before .before .before .before .before .before .before .before .before .before .before .before .before .before .before .before .before .before .before .before) 6 92 (c .put-line6 .last .0) (c .put-line6 .result)
 put6 c =
     let s = c .before .before .before .before .before .before .before .before .before .before .before .before .before .before .before .before .before .before .before .before .before .before .before .before .before .before .before .before .before in
     lined-next (put5 (c .before .before .before .before .before)) (key 5) (getD (values s) 5 0) (omega (arith, s .pre .0)) (c .put-line6 .ensures .0, c .put-line6 .ensures .1)
 
-put7 : (c : tie.After-put-line7) → Upto (c .before .before .before .before .before .before .before .before .before .before .before .before .before .before .before .before .before .before .before .before .before .before .before .before .before .before .before .before .before .before .before .before .before .before) 7 104 (c .put-line7 .last .0) (c .put-line7 .result)
+put7 : (c : tie.After-put-line7) → Upto (c .before .before .before .before .before .before .before .before .before .before .before .before .before .before .before .before .before .before .before .before .before .before .before .before .before .before .before .before .before .before .before .before .before .before) 7 106 (c .put-line7 .last .0) (c .put-line7 .result)
 put7 c =
     let s = c .before .before .before .before .before .before .before .before .before .before .before .before .before .before .before .before .before .before .before .before .before .before .before .before .before .before .before .before .before .before .before .before .before .before in
     lined-next (put6 (c .before .before .before .before .before)) (key 6) (getD (values s) 6 0) (omega (arith, s .pre .0)) (c .put-line7 .ensures .0, c .put-line7 .ensures .1)
 
-put8 : (c : tie.After-put-line8) → Upto (c .before .before .before .before .before .before .before .before .before .before .before .before .before .before .before .before .before .before .before .before .before .before .before .before .before .before .before .before .before .before .before .before .before .before .before .before .before .before .before) 8 118 (c .put-line8 .last .0) (c .put-line8 .result)
+put8 : (c : tie.After-put-line8) → Upto (c .before .before .before .before .before .before .before .before .before .before .before .before .before .before .before .before .before .before .before .before .before .before .before .before .before .before .before .before .before .before .before .before .before .before .before .before .before .before .before) 8 120 (c .put-line8 .last .0) (c .put-line8 .result)
 put8 c =
     let s = c .before .before .before .before .before .before .before .before .before .before .before .before .before .before .before .before .before .before .before .before .before .before .before .before .before .before .before .before .before .before .before .before .before .before .before .before .before .before .before in
     lined-next (put7 (c .before .before .before .before .before)) (key 7) (getD (values s) 7 0) (omega (arith, s .pre .0)) (c .put-line8 .ensures .0, c .put-line8 .ensures .1)
 
-put9 : (c : tie.After-put-line9) → Upto (c .before .before .before .before .before .before .before .before .before .before .before .before .before .before .before .before .before .before .before .before .before .before .before .before .before .before .before .before .before .before .before .before .before .before .before .before .before .before .before .before .before .before .before .before) 9 136 (c .put-line9 .last .0) (c .put-line9 .result)
+put9 : (c : tie.After-put-line9) → Upto (c .before .before .before .before .before .before .before .before .before .before .before .before .before .before .before .before .before .before .before .before .before .before .before .before .before .before .before .before .before .before .before .before .before .before .before .before .before .before .before .before .before .before .before .before) 9 134 (c .put-line9 .last .0) (c .put-line9 .result)
 put9 c =
     let s = c .before .before .before .before .before .before .before .before .before .before .before .before .before .before .before .before .before .before .before .before .before .before .before .before .before .before .before .before .before .before .before .before .before .before .before .before .before .before .before .before .before .before .before .before in
     lined-next (put8 (c .before .before .before .before .before)) (key 8) (getD (values s) 8 0) (omega (arith, s .pre .0)) (c .put-line9 .ensures .0, c .put-line9 .ensures .1)
 
-put10 : (c : tie.After-put-line10) → Upto (c .before .before .before .before .before .before .before .before .before .before .before .before .before .before .before .before .before .before .before .before .before .before .before .before .before .before .before .before .before .before .before .before .before .before .before .before .before .before .before .before .before .before .before .before .before .before .before .before .before) 10 153 (c .put-line10 .last .0) (c .put-line10 .result)
+put10 : (c : tie.After-put-line10) → Upto (c .before .before .before .before .before .before .before .before .before .before .before .before .before .before .before .before .before .before .before .before .before .before .before .before .before .before .before .before .before .before .before .before .before .before .before .before .before .before .before .before .before .before .before .before .before .before .before .before .before) 10 152 (c .put-line10 .last .0) (c .put-line10 .result)
 put10 c =
     let s = c .before .before .before .before .before .before .before .before .before .before .before .before .before .before .before .before .before .before .before .before .before .before .before .before .before .before .before .before .before .before .before .before .before .before .before .before .before .before .before .before .before .before .before .before .before .before .before .before .before in
     lined-next (put9 (c .before .before .before .before .before)) (key 9) (getD (values s) 9 0) (omega (arith, s .pre .0)) (c .put-line10 .ensures .0, c .put-line10 .ensures .1)
+
+put11 : (c : tie.After-put-line11) → Upto (c .before .before .before .before .before .before .before .before .before .before .before .before .before .before .before .before .before .before .before .before .before .before .before .before .before .before .before .before .before .before .before .before .before .before .before .before .before .before .before .before .before .before .before .before .before .before .before .before .before .before .before .before .before .before) 11 169 (c .put-line11 .last .0) (c .put-line11 .result)
+put11 c =
+    let s = c .before .before .before .before .before .before .before .before .before .before .before .before .before .before .before .before .before .before .before .before .before .before .before .before .before .before .before .before .before .before .before .before .before .before .before .before .before .before .before .before .before .before .before .before .before .before .before .before .before .before .before .before .before .before in
+    lined-next (put10 (c .before .before .before .before .before)) (key 10) (getD (values s) 10 0) (omega (arith, s .pre .0)) (c .put-line11 .ensures .0, c .put-line11 .ensures .1)
 
 slice-aggregate-put-line : tie.Need-slice-aggregate-put-line
 slice-aggregate-put-line c = search needs
@@ -154,11 +159,19 @@ put-line-requires-10 c κs =
     let s = c .before .before .before .before .before .before .before .before .before .before .before .before .before .before .before .before .before .before .before .before .before .before .before .before .before .before .before .before .before .before .before .before .before .before .before .before .before .before .before .before .before .before .before .before .before .before .before .before in
     (small s 9, lined-fits (put9 (c .before .before .before .before)) (key 9) (getD (values s) 9 0) (omega (arith, s .pre .0)))
 
+slice-aggregate-put-line-11 : tie.Need-slice-aggregate-put-line-11
+slice-aggregate-put-line-11 c = search needs
+
+put-line-requires-11 : tie.Need-put-line-requires-11
+put-line-requires-11 c κs =
+    let s = c .before .before .before .before .before .before .before .before .before .before .before .before .before .before .before .before .before .before .before .before .before .before .before .before .before .before .before .before .before .before .before .before .before .before .before .before .before .before .before .before .before .before .before .before .before .before .before .before .before .before .before .before .before in
+    (small s 10, lined-fits (put10 (c .before .before .before .before)) (key 10) (getD (values s) 10 0) (omega (arith, s .pre .0)))
+
 same-length : tie.Need-same-length
-same-length c = lined-long (put10 (c .before .before))
+same-length c = lined-long (put11 (c .before .before))
 
 returns : tie.Need-returns
-returns c = let l = put10 (c .before .before) in (l .place, l .bytes)
+returns c = let l = put11 (c .before .before) in (l .place, l .bytes)
 
 pub print-row-spec : {M : Type 1} → statement M
 print-row-spec =
@@ -184,5 +197,7 @@ print-row-spec =
     put-line-requires-9
     slice-aggregate-put-line-10
     put-line-requires-10
+    slice-aggregate-put-line-11
+    put-line-requires-11
     same-length
     returns)

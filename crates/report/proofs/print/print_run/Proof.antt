@@ -1,6 +1,6 @@
 -- `report::print::print_run` meets its contract: the verdict, two lines and the rows of the state after the run.
 use mathlib.Core.List.{List, [], _∷_}
-use mathlib.Core.Path.{_≡_, ap, _∙_}
+use mathlib.Core.Path.{_≡_, sym, ap, _∙_, subst}
 use Prim.Native.Nat.{ℕ, _+_, _≤_}
 use native.Mathlib.Omega.{arith}
 use lib.ListN.{length, getD}
@@ -12,6 +12,8 @@ use Rattle.law.proofs.Report.{verdict-most}
 use Rattle.line.specs.Put.{putAt}
 use Rattle.line.proofs.Pieces.{put-length}
 use Rattle.line.proofs.Chain.{Lined, lined-none, lined-long, lined-fits, lined-next}
+use Rattle.report.specs.Said.{Roomed}
+use Rattle.report.proofs.Judged.{roomed}
 use Rattle.report.proofs.Whole.{after-is, after-held, after-tasks, after-idle, idle-small, whole-printed}
 use Rattle.report.proofs.print.print_run.Statement.{statement}
 use Rattle.report.proofs.print.print_run.Tie as tie
@@ -21,7 +23,10 @@ abbrev Over : Type 0
 Over = tie.After-put-line-arg2
 
 abbrev start : Over → tie.Start
-start c = c .before .before .before .before .before .before .before .before .before .before .before .before .before .before .before .before
+start c = c .before .before .before .before .before .before .before .before .before .before .before .before .before .before .before .before .before .before .before
+
+abbrev measured : Over → tie.After-rooms2
+measured c = c .before .before .before .before .before .before .before .before .before .before .before .before .before .before .before
 
 abbrev judged : Over → tie.After-print-verdict
 judged c = c .before .before .before .before .before .before .before .before .before .before .before
@@ -29,7 +34,7 @@ judged c = c .before .before .before .before .before .before .before .before .be
 early : (c : Over) → start c .args .ticks ≤ clockEnd
 early c = omega (arith, start c .fits .ticks .fits)
 
-judged-long : (c : Over) → length (judged c .print-verdict .last .0) ≡ 5120
+judged-long : (c : Over) → length (judged c .print-verdict .last .0) ≡ 5632
 judged-long c =
     let s = start c in
     let t = tableOf (s .args .words .now) in
@@ -67,6 +72,12 @@ put2 p =
     let c = over (p .before) in
     lined-next (put1 (p .before .before .before .before .before)) idleKey (getD (state (p .before)) 2 0) (omega (arith, judged-few c, judged-long c))
     (p .put-line2 .ensures .0, p .put-line2 .ensures .1)
+
+slice-aggregate-rooms : tie.Need-slice-aggregate-rooms
+slice-aggregate-rooms c = search needs
+
+rooms-requires : tie.Need-rooms-requires
+rooms-requires c κs = search needs
 
 slice-aggregate-print-verdict : tie.Need-slice-aggregate-print-verdict
 slice-aggregate-print-verdict c = search needs
@@ -113,9 +124,12 @@ slice-aggregate-print-rows c = search needs
 slice-aggregate-print-rows-2 : tie.Need-slice-aggregate-print-rows-2
 slice-aggregate-print-rows-2 c = search needs
 
+slice-aggregate-print-rows-3 : tie.Need-slice-aggregate-print-rows-3
+slice-aggregate-print-rows-3 c = search needs
+
 print-rows-requires : tie.Need-print-rows-requires
 print-rows-requires c κs =
-    let p = c .before .before .before .before .before in
+    let p = c .before .before .before .before .before .before in
     let o = over (p .before) in
     let r = o .before .before .before in
     let l = put2 p in
@@ -125,6 +139,7 @@ print-rows-requires c κs =
       lined-long l ∙ judged-long o,
       start o .pre .1,
       judged o .print-verdict .ensures .1 .1,
+      subst (Roomed (tableOf (start o .args .words .now))) (sym (measured o .rooms2 .ensures .1)) (roomed (start o .pre .1)),
       after-held (start o .pre .1) (start o .args .ticks) (early o) e h,
       after-tasks (start o .pre .1) (start o .args .ticks) (early o) e h,
     )
@@ -135,7 +150,7 @@ same-length c = search needs
 returns : tie.Need-returns
 unfolding runPrinted
 returns c =
-    let p = c .before .before .before .before .before .before .before .before in
+    let p = c .before .before .before .before .before .before .before .before .before in
     let o = over (p .before) in
     let r = o .before .before .before in
     let s = start o in
@@ -154,6 +169,8 @@ pub print-run-spec : {M : Type 1} → statement M
 print-run-spec =
     tie.close
     (tie.spec
+    slice-aggregate-rooms
+    rooms-requires
     slice-aggregate-print-verdict
     print-verdict-requires
     slice-aggregate-fresh-words
@@ -167,6 +184,7 @@ print-run-spec =
     put-line-requires-2
     slice-aggregate-print-rows
     slice-aggregate-print-rows-2
+    slice-aggregate-print-rows-3
     print-rows-requires
     same-length
     returns)
