@@ -9,6 +9,7 @@ mod promise;
 mod red;
 mod replay;
 mod report;
+mod rooms;
 mod table;
 mod text;
 mod verdict;
@@ -60,6 +61,7 @@ pub fn all() -> impl Iterator<Item = &'static Comparison> {
         pattern::ALL,
         table::ALL,
         verdict::ALL,
+        rooms::ALL,
         dispatch::ALL,
         counts::ALL,
         held::ALL,

@@ -31,6 +31,7 @@ unsafe extern "C" {
     safe fn gp_word(m: u32, k: u32) -> CAnswer;
     fn gp_check(words: *const u32, n: usize) -> CAnswer;
     fn gp_verdict(words: *const u32, n: usize, room: *mut u32, room_n: usize) -> CAnswer;
+    fn gp_rooms(words: *const u32, n: usize, room: *mut u32, room_n: usize) -> CAnswer;
     fn gp_fresh(table: *const u32, n: usize, room: *mut u64, room_n: usize) -> CAnswer;
     fn gp_well(state: *const u64, n: usize) -> CAnswer;
     fn gp_tick(state: *mut u64, n: usize) -> CAnswer;
@@ -72,6 +73,14 @@ pub fn verdict(words: &[u32], room: &mut [u32]) -> Answer {
     // read and the room's written for the whole call; the room, being borrowed
     // mutably, overlaps nothing.
     unsafe { gp_verdict(words.as_ptr(), words.len(), place, length) }.into()
+}
+
+/// The rooms of a table's rows, written to the lent room.
+#[inline]
+pub fn rooms(words: &[u32], room: &mut [u32]) -> Answer {
+    let (place, length) = (room.as_mut_ptr(), room.len());
+    // SAFETY: as in [`verdict`].
+    unsafe { gp_rooms(words.as_ptr(), words.len(), place, length) }.into()
 }
 
 /// The fresh state of a table, laid into the first 643 words of the room.
@@ -179,6 +188,14 @@ pub fn verdict_lent(words: &mut Lent<u32>, room: &mut Lent<u32>) -> Answer {
     // SAFETY: both pointers are aligned and not null, they lead into two
     // buffers, and the whole of each is this call's alone.
     unsafe { gp_verdict(table, table_length, place, length) }.into()
+}
+
+/// [`rooms`] on a table and a room whose surroundings are watched.
+pub fn rooms_lent(words: &mut Lent<u32>, room: &mut Lent<u32>) -> Answer {
+    let (table, table_length) = (words.pointer(), words.len());
+    let (place, length) = (room.pointer(), room.len());
+    // SAFETY: as in [`verdict_lent`].
+    unsafe { gp_rooms(table, table_length, place, length) }.into()
 }
 
 /// [`fresh`] on a table and a room whose surroundings are watched.

@@ -8,7 +8,8 @@
 //! beginning of some text is then asked afresh for each length, line by line.
 //!
 //! [`spare`] does the same for the figure of that name, [`held`] for the number of met
-//! marks, and [`pattern`] and [`verdict`] count jobs where the rules have a formula.
+//! marks, and [`pattern`], [`verdict`] and [`rooms`] count jobs where the rules have a
+//! formula.
 //! [`convert`] carries texts from one form to the other by whole lines, and [`replay`]
 //! lists every release before a tick is run.
 
@@ -18,6 +19,7 @@ pub mod held;
 mod lines;
 pub mod pattern;
 pub mod replay;
+pub mod rooms;
 pub mod spare;
 pub mod verdict;
 

@@ -1,5 +1,5 @@
 //! The second program: the rules of document 01, and of document 02 what has
-//! been taken up (1/14 to 6/14), written from those documents alone, so that its
+//! been taken up (1/14 to 7/14), written from those documents alone, so that its
 //! answers can be laid beside the first program's.
 //!
 //! Everything here is total. Each function gives an answer on every input and
@@ -17,6 +17,7 @@ pub mod pattern;
 pub mod promise;
 pub mod report;
 pub mod rng;
+pub mod rooms;
 pub mod table;
 pub mod text;
 pub mod vectors;

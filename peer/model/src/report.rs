@@ -2,6 +2,7 @@
 
 use crate::answer::{refusal, Answer};
 use crate::dispatch::{self, State};
+use crate::rooms;
 use crate::table::ROWS_MAX;
 use crate::text::{line, read_words, Reader, KEYS};
 use crate::verdict;
@@ -18,12 +19,16 @@ fn asked(input: &[u8]) -> Result<(u32, Vec<u32>), Answer> {
     Ok((ticks, words))
 }
 
+/// What fills a room with a figure for each row of a table.
+type Figures = fn(&[u32], &mut [u32]) -> Answer;
+
 /// "It prints the verdict, runs N ticks from fresh, and prints counts." The
-/// table is run whether admitted or not.
-fn printed(input: &[u8], judge: fn(&[u32], &mut [u32]) -> Answer) -> Result<Vec<u8>, Answer> {
+/// table is run whether admitted or not, and the room is told of every row.
+fn printed(input: &[u8], judge: Figures, rooms: Figures) -> Result<Vec<u8>, Answer> {
     let (ticks, words) = asked(input)?;
-    let mut responses = [0; ROWS_MAX];
+    let (mut responses, mut room) = ([0; ROWS_MAX], [0; ROWS_MAX]);
     let verdict = judge(&words, &mut responses);
+    rooms(&words, &mut room);
     let mut state = dispatch::fresh(&words)?;
     let ran = dispatch::run(&mut state, ticks);
     if !ran.is_accepted() {
@@ -31,7 +36,7 @@ fn printed(input: &[u8], judge: fn(&[u32], &mut [u32]) -> Answer) -> Result<Vec<
     }
     let mut out = Vec::new();
     print_verdict(&mut out, verdict);
-    print_counts(&mut out, &state, &responses);
+    print_counts(&mut out, &state, &responses, &room);
     Ok(out)
 }
 
@@ -48,16 +53,19 @@ fn print_verdict(out: &mut Vec<u8>, verdict: Answer) {
 }
 
 /// "r is the response time; mm, mx, om, ox are mandatory met and missed,
-/// optional met and missed."
-fn print_counts(out: &mut Vec<u8>, state: &State, responses: &[u32; ROWS_MAX]) {
+/// optional met and missed." "after `r=` comes a line `room=`, printed for every row,
+/// also in a table turned down" (document 02, 7/14).
+fn print_counts(out: &mut Vec<u8>, state: &State, responses: &[u32], rooms: &[u32]) {
     line(out, "ticks", u64::from(state.time));
     line(out, "idle", u64::from(state.idle));
-    let rows = state.row.iter().zip(responses).take(state.rows as usize);
-    for (at, (row, response)) in rows.enumerate() {
+    let figures = responses.iter().zip(rooms);
+    let rows = state.row.iter().zip(figures).take(state.rows as usize);
+    for (at, (row, (response, room))) in rows.enumerate() {
         let lines = [
             ("row", at as u32),
             ("id", row.id),
             ("r", *response),
+            ("room", *room),
             ("released", row.released),
             ("mm", row.mm),
             ("mx", row.mx),
@@ -85,12 +93,13 @@ pub(crate) fn refused(answer: Answer) -> Vec<u8> {
 
 /// All that the printing program prints for an input.
 pub fn report(input: &[u8]) -> Vec<u8> {
-    printed(input, verdict::verdict).unwrap_or_else(refused)
+    printed(input, verdict::verdict, rooms::rooms).unwrap_or_else(refused)
 }
 
-/// The same bytes, the response times found by leaps.
+/// The same bytes, the response times found by leaps and the rooms by stretches.
 pub fn report_leaping(input: &[u8]) -> Vec<u8> {
-    printed(input, verdict::verdict_leaping).unwrap_or_else(refused)
+    let (judge, rooms): (Figures, Figures) = (verdict::verdict_leaping, rooms::rooms_by_stretches);
+    printed(input, judge, rooms).unwrap_or_else(refused)
 }
 
 /// The same bytes into a lent room: 13 when it is too short for them, otherwise

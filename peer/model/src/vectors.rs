@@ -21,6 +21,7 @@
 //! | `12 room bytes` | the new text of an old one | answer, every byte of the room |
 //! | `13 room bytes` | the old text of a new one | answer, every byte of the room |
 //! | `14 room n at value more count log words` | fresh, n ticks, the word at `at` made `value`, a replay of more ticks | three answers, the state |
+//! | `15 room words` | the rooms of the rows | answer, every word of the room |
 //!
 //! An answer is two numbers, the refusal's and the value; a replay's is three, the
 //! numbers used last. `room`, and `counts` for the seventh operation, are the lengths
@@ -40,7 +41,7 @@ pub const BEFORE: u32 = 4_000_000_007;
 /// What every byte of a room is before the call.
 pub const BYTE_BEFORE: u8 = 255;
 
-/// The longest rooms a case may ask for: response times, a state, counts, bytes.
+/// The longest rooms a case may ask for: response times or rooms, a state, counts, bytes.
 pub const ROOM_MAX: usize = 64;
 pub const STATE_ROOM_MAX: usize = 672;
 pub const COUNT_ROOM_MAX: usize = 16;

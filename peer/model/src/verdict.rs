@@ -1,25 +1,33 @@
 //! "Verdict": the load, the response times, admitted or not.
 
 use crate::answer::{refusal, Answer};
-use crate::table::Table;
+use crate::table::{Table, TaskRow};
 
 /// "For row i and a tick count t of at least 1, the load is C of row i plus,
 /// for every row j above it, C of j times ceil(q x m / k), with q = ceil(t / T)
 /// and m, k, T of row j." "the verdict uses the count of each row's own pattern"
 /// (document 02, 3/14): ceil(q x m / k) is an even one's.
 ///
-/// The count is at most q, below 2^32, and C below 2^16, so 32 rows stay below
-/// 2^53. A row that the table does not have carries no load.
+/// A row that the table does not have carries no load.
 pub fn load(table: &Table, row: usize, t: u32) -> u64 {
-    let rows = table.rows();
-    let Some(own) = rows.get(row) else {
-        return 0;
-    };
-    let above = rows[..row].iter().map(|j| {
-        let q = t.div_ceil(j.t);
-        u64::from(j.c) * j.pattern().count(q)
-    });
-    u64::from(own.c) + above.sum::<u64>()
+    let own = table.rows().get(row).map(|own| u64::from(own.c));
+    own.map_or(0, |own| own + load_above(table, row, t))
+}
+
+/// "the load that rows above bring by t" (document 02, 7/14): the same without C of
+/// row i. Of a row past the last, every row is above.
+///
+/// The count is at most q, below 2^32, and C below 2^16, so 32 rows stay below
+/// 2^53.
+pub fn load_above(table: &Table, row: usize, t: u32) -> u64 {
+    let above = table.rows().iter().take(row);
+    above.map(|j| brought(j, t)).sum()
+}
+
+/// What one row brings by t: C for each mandatory one of the jobs it has released.
+pub(crate) fn brought(row: &TaskRow, t: u32) -> u64 {
+    let q = t.div_ceil(row.t);
+    u64::from(row.c) * row.pattern().count(q)
 }
 
 /// "The row fits when some t from 1 to D has a load of at most t"; "the search
@@ -66,23 +74,35 @@ pub fn verdict_leaping(words: &[u32], room: &mut [u32]) -> Answer {
 pub(crate) fn judged(
     words: &[u32],
     room: &mut [u32],
-    fit: fn(&Table, usize) -> Option<u32>,
+    mut fit: impl FnMut(&Table, usize) -> Option<u32>,
+) -> Answer {
+    in_words(words, room, |table, room| {
+        let rows = room.len();
+        let mut responses = Vec::with_capacity(rows);
+        for row in 0..rows {
+            match fit(table, row) {
+                Some(t) => responses.push(t),
+                None => return Answer::refused_at(refusal::UNSCHEDULABLE, row as u64),
+            }
+        }
+        room.copy_from_slice(&responses);
+        Answer::accepted(rows as u64)
+    })
+}
+
+/// The refusals of words, then 13; otherwise what is said of the table, with as many
+/// words of the room as it has rows.
+pub(crate) fn in_words(
+    words: &[u32],
+    room: &mut [u32],
+    say: impl FnOnce(&Table, &mut [u32]) -> Answer,
 ) -> Answer {
     let table = match Table::of(words) {
         Ok(table) => table,
         Err(answer) => return answer,
     };
-    let rows = table.rows().len();
-    let Some(room) = room.get_mut(..rows) else {
+    let Some(room) = room.get_mut(..table.rows().len()) else {
         return Answer::refused(refusal::ROOM_TOO_SHORT);
     };
-    let mut responses = Vec::with_capacity(rows);
-    for row in 0..rows {
-        match fit(&table, row) {
-            Some(t) => responses.push(t),
-            None => return Answer::refused_at(refusal::UNSCHEDULABLE, row as u64),
-        }
-    }
-    room.copy_from_slice(&responses);
-    Answer::accepted(rows as u64)
+    say(&table, room)
 }

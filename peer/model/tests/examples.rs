@@ -5,6 +5,7 @@ use peer::answer::Answer;
 use peer::dispatch::{fresh, run, tick};
 use peer::pattern::{book, entry, job, job_by_remainder, mandatory, place, word};
 use peer::report::report;
+use peer::rooms::{verdict_by_rooms, verdict_by_rooms_walking};
 use peer::table::check;
 use peer::verdict::{load, verdict, verdict_leaping};
 
@@ -14,8 +15,8 @@ const INPUT: &str = "ticks=24\nrows=2\nid=11\nc=2\nt=4\nd=4\nm=1\nk=2\np=0\n\
                      id=12\nc=4\nt=6\nd=6\nm=2\nk=3\np=0\n";
 
 const OUTPUT: &str = "verdict=admitted\nticks=24\nidle=0\n\
-    row=0\nid=11\nr=2\nreleased=6\nmm=3\nmx=0\nom=2\nox=1\nbroken=0\nspare=1\n\
-    row=1\nid=12\nr=6\nreleased=4\nmm=3\nmx=0\nom=0\nox=1\nbroken=0\nspare=0\n";
+    row=0\nid=11\nr=2\nroom=4\nreleased=6\nmm=3\nmx=0\nom=2\nox=1\nbroken=0\nspare=1\n\
+    row=1\nid=12\nr=6\nroom=4\nreleased=4\nmm=3\nmx=0\nom=0\nox=1\nbroken=0\nspare=0\n";
 
 /// The mandatory ones of the first jobs, by the rule and by the question's two forms.
 fn mandatory_jobs(m: u32, k: u32, jobs: u32) -> Vec<u32> {
@@ -28,13 +29,17 @@ fn mandatory_jobs(m: u32, k: u32, jobs: u32) -> Vec<u32> {
     found
 }
 
-/// Both searches give the same verdict; room for the rows and two words more.
+/// Both searches give the same verdict, and so do those that ask for the room; room for
+/// the rows and two words more.
 fn judged(words: &[u32]) -> (Answer, Vec<u32>) {
-    let mut room = vec![77; words.len() / 7 + 2];
-    let mut leapt = room.clone();
+    let before = vec![77; words.len() / 7 + 2];
+    let mut room = before.clone();
     let answer = verdict(words, &mut room);
-    assert_eq!(verdict_leaping(words, &mut leapt), answer);
-    assert_eq!(room, leapt);
+    for judge in [verdict_leaping, verdict_by_rooms, verdict_by_rooms_walking] {
+        let mut other = before.clone();
+        assert_eq!(judge(words, &mut other), answer);
+        assert_eq!(room, other);
+    }
     (answer, room)
 }
 

@@ -10,6 +10,8 @@ use peer::dispatch::{fresh, run};
 use peer::gen::{report_input, special_inputs};
 use peer::report::{report, report_into, report_leaping};
 use peer::rng::Rng;
+use peer::rooms::room;
+use peer::table::Table;
 use peer::text::read;
 use peer::verdict::verdict;
 
@@ -33,13 +35,17 @@ fn expected(input: &[u8]) -> String {
         0 => String::from("verdict=admitted\n"),
         _ => format!("verdict=unschedulable\nat={}\n", answer.value),
     };
+    let table = Table::of(words).unwrap();
     let mut state = fresh(words).unwrap();
     assert!(run(&mut state, ticks.parse().unwrap()).is_accepted());
     out += &format!("ticks={ticks}\nidle={}\n", state.idle);
     for (at, (row, r)) in state.row.iter().zip(r).take(rows).enumerate() {
         out += &format!(
-            "row={at}\nid={}\nr={}\nreleased={}\n",
-            row.id, r, row.released
+            "row={at}\nid={}\nr={}\nroom={}\nreleased={}\n",
+            row.id,
+            r,
+            room(&table, at),
+            row.released
         );
         out += &format!(
             "mm={}\nmx={}\nom={}\nox={}\n",
@@ -101,16 +107,33 @@ fn inputs_gone_wrong_in_each_way() {
     );
 }
 
-/// P6 in print: the table is run all the same, and every r is 0.
+/// P6 in print: the table is run all the same, and every r is 0; no room is.
 #[test]
 fn an_unschedulable_table() {
     let out = printed(&format!("ticks=6\n{TEXT}"));
-    let rows = "row=0\nid=11\nr=0\nreleased=2\nmm=1\nmx=0\nom=0\nox=0\nbroken=0\nspare=1\n\
-                row=1\nid=12\nr=0\nreleased=1\nmm=0\nmx=1\nom=0\nox=0\nbroken=0\nspare=0\n";
+    let rows = "row=0\nid=11\nr=0\nroom=4\nreleased=2\nmm=1\nmx=0\nom=0\nox=0\nbroken=0\nspare=1\n\
+                row=1\nid=12\nr=0\nroom=4\nreleased=1\nmm=0\nmx=1\nom=0\nox=0\nbroken=0\nspare=0\n";
     assert_eq!(
         out,
         format!("verdict=unschedulable\nat=1\nticks=6\nidle=0\n{rows}")
     );
+}
+
+/// "printed for every row, also in a table turned down": row 0 does not fit, its C
+/// being past its D, and the rows below it have rooms of their own.
+#[test]
+fn rooms_below_the_row_named() {
+    let row = |id: u32, c: u32, t: u32, d: u32, k: u32| {
+        format!("id={id}\nc={c}\nt={t}\nd={d}\nm=1\nk={k}\np=0\n")
+    };
+    let rows = row(1, 9, 10, 5, 2) + &row(2, 1, 10, 10, 1) + &row(3, 1, 20, 20, 1);
+    let out = printed(&format!("ticks=0\nrows=3\n{rows}"));
+    assert!(out.starts_with("verdict=unschedulable\nat=0\n"), "{out}");
+    let told: Vec<&str> = out.lines().filter(|line| line.starts_with('r')).collect();
+    let row = |row: &str, room: &str| format!("{row} r=0 {room} released=0");
+    let due = row("row=0", "room=5") + " " + &row("row=1", "room=1");
+    let due = due + " " + &row("row=2", "room=9");
+    assert_eq!(told.join(" "), due);
 }
 
 /// A run of no ticks: nothing released, every window whole.
@@ -118,7 +141,7 @@ fn an_unschedulable_table() {
 fn no_ticks() {
     let out = printed(&format!("ticks=0\n{}", TEXT.replace("c=5", "c=4")));
     let counts = "released=0\nmm=0\nmx=0\nom=0\nox=0\nbroken=0\nspare=1\n";
-    let rows = format!("row=0\nid=11\nr=2\n{counts}row=1\nid=12\nr=6\n{counts}");
+    let rows = format!("row=0\nid=11\nr=2\nroom=4\n{counts}row=1\nid=12\nr=6\nroom=4\n{counts}");
     assert_eq!(out, format!("verdict=admitted\nticks=0\nidle=0\n{rows}"));
 }
 

@@ -10,6 +10,7 @@ use peer::gen::{any_log, damaged_states, scrambled_state};
 use peer::pattern::{count, entry, job, job_by_remainder, mandatory, place, word};
 use peer::report::{report, report_into};
 use peer::rng::Rng;
+use peer::rooms::{rooms, rooms_by_stretches, verdict_by_rooms};
 use peer::table::check;
 use peer::text::{read, text_of, write};
 use peer::verdict::{verdict, verdict_leaping};
@@ -42,6 +43,9 @@ fn rubbish_words() {
         let mut room = [0; 32];
         let judged = verdict(&words, &mut room);
         assert_eq!(verdict_leaping(&words, &mut room), judged);
+        assert_eq!(verdict_by_rooms(&words, &mut room), judged);
+        assert_eq!(rooms(&words, &mut room), answer);
+        assert_eq!(rooms_by_stretches(&words, &mut room), answer);
         assert!(judged == answer || judged.refusal == 11 || judged.is_accepted());
         let mut text = vec![0; 1_600];
         assert_eq!(write(&words, &mut text).refusal, answer.refusal);

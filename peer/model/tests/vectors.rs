@@ -7,7 +7,7 @@ use std::fs;
 use peer::vectors::{answer, answers, cases};
 
 /// The first program reads so many bytes of cases, and so many numbers of one.
-const TEXT_MAX: usize = 524_287;
+const TEXT_MAX: usize = 719_999;
 const NUMBERS_MAX: usize = 2_048;
 
 fn stored(name: &str) -> String {
@@ -76,6 +76,7 @@ fn every_refusal_is_reached() {
     let new = text.into_iter().chain([17]);
     assert_eq!(given(13, 1), new.collect());
     assert_eq!(given(14, 5), BTreeSet::from([0, 14, 15, 18]));
+    assert_eq!(given(15, 1), with(&[0, 13]));
 }
 
 #[test]
@@ -205,6 +206,27 @@ fn replays_by_hand() {
     assert!(line.starts_with(&format!("14 2 0 14 0 14 0 0 {room} ")));
 }
 
+/// 7/14: P5 into rooms of each length; P7, whose row 1 has its room at 4; P6, turned down,
+/// and a table of which row 0 is; no room left.
+#[test]
+fn rooms_by_hand() {
+    let of = |room: u32, words: &str| answered(&format!("15 {room} {words}\n"));
+    let p5 = "11 2 4 4 1 2 0 12 4 6 6 2 3 0";
+    assert_eq!(of(2, p5), "15 0 2 4 4\n");
+    assert_eq!(of(3, p5), "15 0 2 4 4 4000000007\n");
+    assert_eq!(of(1, p5), "15 13 0 4000000007\n");
+    assert_eq!(of(0, p5), "15 13 0\n");
+    assert_eq!(of(2, "11 2 4 4 1 2 0 12 5 6 6 2 3 0"), "15 0 2 4 4\n");
+    let p7 = "1 2 4 4 1 1 0 2 2 5 5 1 1 0";
+    assert_eq!(of(2, p7), "15 0 2 4 2\n");
+    assert_eq!(of(1, "1 2 4 1 1 1 0"), "15 0 1 1\n");
+    let down = "1 9 10 5 1 2 0 2 1 10 10 1 1 0 3 1 20 20 1 1 0";
+    assert_eq!(of(3, down), "15 0 3 5 1 9\n");
+    assert_eq!(of(2, "1 1 1 1 1 1 0 2 1 9 9 1 1 0"), "15 0 2 1 0\n");
+    assert_eq!(of(1, "1 1 1 1 1 65 0 0 1 1 1 1 1 0"), "15 8 0 4000000007\n");
+    assert_eq!(answered("15 1\n15 0 1\n"), "15 2 0 4000000007\n15 1 0\n");
+}
+
 #[test]
 fn what_is_no_case() {
     for (at, text) in [
@@ -228,7 +250,10 @@ fn what_is_no_case() {
         (1, "14 643 0 672 0 4294967296 0\n"),
         (1, "14 643 0 672 0 0 513\n"),
         (1, "14 643 0 672 0 0 1 4294967296\n"),
-        (1, "15 0\n"),
+        (1, "15\n"),
+        (1, "15 65\n"),
+        (1, "15 0 4294967296\n"),
+        (1, "16 0\n"),
     ] {
         assert_eq!(answers(text), Err(at), "{text:?}");
     }

@@ -57,6 +57,7 @@ fn main() -> ExitCode {
         }
     }
     alike &= red::verdicts(&rng);
+    alike &= verdicts::far_apart(&rng);
     for rows in [2, 8, 32] {
         alike &= ticks::ticks(&mut rng, rows);
     }

@@ -21,7 +21,7 @@ use crate::ffi;
 use crate::lent::Lent;
 
 /// Bytes that are always room enough, by the first program's own word.
-const ENOUGH: usize = 5_120;
+const ENOUGH: usize = 5_632;
 
 /// The longest input that the rule is asked about: it tries every beginning.
 const RULED: usize = 90;

@@ -1,7 +1,8 @@
-//! "A task table": well formed or not, through the check and the verdict.
+//! "A task table": well formed or not, through the check, the verdict and the rooms.
 
 use peer::table::{check, ROWS_MAX, ROW_WORDS};
 
+use super::rooms::same_rooms;
 use super::verdict::same_verdict;
 use super::Comparison;
 use crate::course::{shown, Compared, Course};
@@ -9,11 +10,11 @@ use crate::draw::{any_table, faults_in, room, sound, EDGES, FAULTS};
 use crate::ffi;
 use crate::lent::Lent;
 
-/// The check gives these, the verdict 11 and 13 besides.
-const WORDS_REFUSED: [u64; 12] = [0, 1, 2, 3, 4, 5, 6, 7, 8, 9, 10, 16];
+/// The check gives these, the verdict 11 and 13 besides, the rooms 13.
+pub const WORDS_REFUSED: [u64; 12] = [0, 1, 2, 3, 4, 5, 6, 7, 8, 9, 10, 16];
 
 /// Words of the right number, and a row at fault.
-const ROWS_REFUSED: [u64; 9] = [0, 4, 5, 6, 7, 8, 9, 10, 16];
+pub const ROWS_REFUSED: [u64; 9] = [0, 4, 5, 6, 7, 8, 9, 10, 16];
 
 pub const ALL: &[Comparison] = &[
     Comparison::drawn("table_lengths", &[0, 1, 2, 3, 4], lengths),
@@ -43,11 +44,12 @@ fn same_check(course: &mut Course, words: &[u32]) -> Compared {
     })
 }
 
-/// The check, and the verdict into a drawn room.
+/// The check, and the verdict and the rooms into a drawn room.
 pub fn same_table(course: &mut Course, words: &[u32]) -> Compared {
     same_check(course, words)?;
     let room = room(&mut course.rng, words.len() / ROW_WORDS);
-    same_verdict(course, words, &room)
+    same_verdict(course, words, &room)?;
+    same_rooms(course, words, &room)
 }
 
 /// Every length to well past 224 words, and lengths whose row count has low
@@ -74,15 +76,14 @@ fn empty_slices(course: &mut Course) -> Compared {
         course.settle(peer, first == peer, || {
             format!("check of {words:?}: {} {}", shown(first), shown(peer))
         })?;
-        let first = ffi::verdict(words, &mut []);
-        let peer = peer::verdict::verdict(words, &mut []);
-        course.settle(peer, first == peer, || {
-            format!(
-                "verdict, no room, {words:?}: {} {}",
-                shown(first),
-                shown(peer)
-            )
-        })?;
+        let verdicts = [ffi::verdict, peer::verdict::verdict];
+        let rooms = [ffi::rooms, peer::rooms::rooms];
+        for asked in [verdicts, rooms] {
+            let [first, peer] = asked.map(|one| one(words, &mut []));
+            course.settle(peer, first == peer, || {
+                format!("no room, {words:?}: {} {}", shown(first), shown(peer))
+            })?;
+        }
     }
     Ok(())
 }

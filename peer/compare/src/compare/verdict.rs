@@ -1,18 +1,21 @@
 //! "Verdict": admitted or not, and the response times in the lent room.
 //!
 //! The judge is the second program's walk over every tick, in which jobs are counted
-//! one by one; its leaps, which go by the formulas, must come to the same.
+//! one by one; its leaps, which go by the formulas, must come to the same, and so must
+//! the verdict that asks for each row's room.
 
 use peer::brute::verdict::verdict;
 use peer::gen::{boundary_table, loaded_table, table, tiny_table, wide_table};
 use peer::pattern::{EVEN, RED};
+use peer::rooms::verdict_by_rooms;
 use peer::table::{ROWS_MAX, ROW_WORDS};
 use peer::verdict::verdict_leaping;
 
 use super::Comparison;
 use crate::course::{shown, Compared, Course};
-use crate::draw::{apart, full_table, limit_pair, room, room_of, slow_table, sound};
-use crate::draw::{LimitPair, Patterns, Shape};
+use crate::draw::{apart, around_limit, limit_pair, room, room_of};
+use crate::draw::{slow_table, sound};
+use crate::draw::{LimitPair, Shape};
 use crate::ffi;
 use crate::lent::Lent;
 
@@ -42,15 +45,16 @@ pub fn same_verdict(course: &mut Course, words: &[u32], room: &[u32]) -> Compare
     let mut lent_words = Lent::new(&mut course.rng, words);
     let mut lent_room = Lent::new(&mut course.rng, room);
     let first = ffi::verdict_lent(&mut lent_words, &mut lent_room);
-    let (mut filled, mut leapt) = (room.to_vec(), room.to_vec());
+    let (mut filled, mut leapt, mut roomed) = (room.to_vec(), room.to_vec(), room.to_vec());
     let peer = verdict(words, &mut filled);
-    let alike = verdict_leaping(words, &mut leapt) == peer && leapt == filled;
+    let by_rooms = verdict_by_rooms(words, &mut roomed) == peer && roomed == filled;
+    let alike = verdict_leaping(words, &mut leapt) == peer && leapt == filled && by_rooms;
     let same = alike && first == peer && lent_words.holds(words) && lent_room.holds(&filled);
     course.settle(peer, same, || {
         format!(
             "verdict on {words:?}\nroom before {room:?}\n\
-             first {} room {:?}\npeer  {} room {filled:?}, by leaps {leapt:?}\n\
-             altered beside the room {:?}\n\
+             first {} room {:?}\npeer  {} room {filled:?}, by leaps {leapt:?}, \
+             by rooms {roomed:?}\naltered beside the room {:?}\n\
              table after {:?}\naltered beside the table {:?}",
             shown(first),
             lent_room.words(),
@@ -88,17 +92,17 @@ fn rooms(course: &mut Course) -> Compared {
 }
 
 /// m, k and p of a row.
-type Pair = [u32; 3];
+pub type Pair = [u32; 3];
 
 /// Every pair with k up to `k_max`, even, and deeply-red where that is another pattern.
-fn small_pairs(k_max: u32) -> Vec<Pair> {
+pub fn small_pairs(k_max: u32) -> Vec<Pair> {
     let pairs = (1..=k_max).flat_map(|k| (1..=k).map(move |m| (m, k)));
     let both = pairs.flat_map(|(m, k)| [[m, k, EVEN], [m, k, RED]]);
     both.filter(|&[m, k, p]| p == EVEN || apart(m, k)).collect()
 }
 
 /// Every row with T up to `t_max`, C up to one past D, and one of these pairs.
-fn small_rows(t_max: u32, pairs: &[Pair]) -> Vec<[u32; 6]> {
+pub fn small_rows(t_max: u32, pairs: &[Pair]) -> Vec<[u32; 6]> {
     let mut rows = Vec::new();
     for (t, &[m, k, p]) in (1..=t_max).flat_map(|t| pairs.iter().map(move |pair| (t, pair))) {
         for d in 1..=t {
@@ -109,7 +113,7 @@ fn small_rows(t_max: u32, pairs: &[Pair]) -> Vec<[u32; 6]> {
 }
 
 /// A table of these rows, with their numbers for ids.
-fn small_table(rows: &[[u32; 6]]) -> Vec<u32> {
+pub fn small_table(rows: &[[u32; 6]]) -> Vec<u32> {
     let row = |(at, row): (usize, &[u32; 6])| [&[at as u32 + 1], &row[..]].concat();
     rows.iter().enumerate().flat_map(row).collect()
 }
@@ -152,21 +156,9 @@ fn drawn(course: &mut Course) -> Compared {
 /// Tables that one unit of work more makes unschedulable, and those with it.
 fn limit(course: &mut Course) -> Compared {
     for _ in 0..LIMITS {
-        let rng = &mut course.rng;
-        let (few, any) = (1 + rng.index(8), 1 + rng.index(ROWS_MAX));
-        let rows = if rng.once_in(4) { any } else { few };
-        let shape = Shape {
-            rows,
-            t_low: 4 * rows as u32,
-            t_high: rng.word(8 * rows as u32, 3_000),
-        };
-        if rng.once_in(8) {
-            let words = full_table(rng, shape, Patterns::Drawn);
+        for words in around_limit(&mut course.rng) {
             same_drawn(course, &words)?;
         }
-        let LimitPair { within, past } = limit_pair(&mut course.rng, shape);
-        same_drawn(course, &within)?;
-        same_drawn(course, &past)?;
     }
     Ok(())
 }

@@ -70,6 +70,25 @@ pub fn limit_pair(rng: &mut Rng, shape: Shape) -> LimitPair {
     pair_of(rng, words)
 }
 
+/// Such a pair with periods of up to a few thousand, and now and then a table of full
+/// load before it.
+pub fn around_limit(rng: &mut Rng) -> Vec<Vec<u32>> {
+    let (few, any) = (1 + rng.index(8), 1 + rng.index(ROWS_MAX));
+    let rows = if rng.once_in(4) { any } else { few };
+    let shape = Shape {
+        rows,
+        t_low: 4 * rows as u32,
+        t_high: rng.word(8 * rows as u32, 3_000),
+    };
+    let mut tables = Vec::new();
+    if rng.once_in(8) {
+        tables.push(full_table(rng, shape, Patterns::Drawn));
+    }
+    let LimitPair { within, past } = limit_pair(rng, shape);
+    tables.extend([within, past]);
+    tables
+}
+
 /// The same for tables of so many rows whose patterns and periods soon begin
 /// again together: the least common multiple of all k x T is at most 576 for
 /// each row.

@@ -7,7 +7,7 @@ use crate::table::{Table, TaskRow};
 use crate::verdict::judged;
 
 /// The jobs of one row that are released before the tick count that was reached.
-struct Released {
+pub(super) struct Released {
     task: TaskRow,
     /// The next job, and the tick of its release: "job a of a task is released at tick
     /// a x T".
@@ -18,7 +18,7 @@ struct Released {
 }
 
 impl Released {
-    fn new(task: &TaskRow) -> Released {
+    pub(super) fn new(task: &TaskRow) -> Released {
         Released {
             task: *task,
             job: 0,
@@ -29,7 +29,7 @@ impl Released {
 
     /// The work of the jobs released before t, which is at most one more than at the
     /// last call.
-    fn by(&mut self, t: u32) -> u64 {
+    pub(super) fn by(&mut self, t: u32) -> u64 {
         while self.at < t {
             if is_mandatory(self.task.pattern(), self.job) {
                 self.work += u64::from(self.task.c);

@@ -8,6 +8,7 @@ use crate::counts::{counts_words, held_words};
 use crate::dispatch::{self, HEAD_WORDS, SAVED_ROW_WORDS, STATE_WORDS};
 use crate::pattern;
 use crate::report::report_into;
+use crate::rooms::rooms;
 use crate::table::{check, ROWS_MAX};
 use crate::text;
 use crate::verdict::verdict;
@@ -30,10 +31,11 @@ pub fn answer(case: &[u64]) -> Option<Vec<u64>> {
         [1, m, k, job] => push(&mut out, pattern::job(small(m)?, small(k)?, small(job)?)),
         [2, m, k] => push(&mut out, word(small(m)?, small(k)?)),
         [3, ref words @ ..] => push(&mut out, check(&table(words)?)),
-        [4, room, ref words @ ..] => judged(&mut out, length(room, ROOM_MAX)?, &table(words)?),
+        [4, room, ref words @ ..] => figures(&mut out, verdict, room, words)?,
         [8, room, ref text @ ..] => read(&mut out, length(room, WORDS_MAX)?, &bytes(text)?),
         [9, room, ref words @ ..] => written(&mut out, byte_room(room)?, &table(words)?),
         [10, room, ref input @ ..] => printed(&mut out, byte_room(room)?, &bytes(input)?),
+        [15, room, ref words @ ..] => figures(&mut out, rooms, room, words)?,
         [12, room, ref text @ ..] => {
             carried(&mut out, byte_room(room)?, Way::ToNew, &bytes(text)?);
         }
@@ -119,10 +121,17 @@ fn word(m: u32, k: u32) -> Answer {
     pattern::asked(m, k, || pattern::word(m, k))
 }
 
-fn judged(out: &mut Vec<u64>, length: usize, words: &[u32]) {
-    let mut room = vec![BEFORE; length];
-    push(out, verdict(words, &mut room));
+/// A figure for each row of a table: its response time, or its room.
+fn figures(
+    out: &mut Vec<u64>,
+    asked: fn(&[u32], &mut [u32]) -> Answer,
+    room: u64,
+    words: &[u64],
+) -> Option<()> {
+    let mut room = vec![BEFORE; length(room, ROOM_MAX)?];
+    push(out, asked(&table(words)?, &mut room));
     out.extend(room.into_iter().map(u64::from));
+    Some(())
 }
 
 fn counted(out: &mut Vec<u64>, mut room: Vec<u64>, state: &[u64], row: u32) {

@@ -6,6 +6,7 @@ mod carried;
 mod counts;
 mod red;
 mod replays;
+mod rooms;
 mod states;
 mod tables;
 mod texts;
@@ -18,6 +19,7 @@ use crate::table::{ROW_WORDS, WORD_MAX};
 use carried::{to_new, to_old};
 use counts::{counts, held};
 use replays::replays;
+use rooms::rooms;
 use states::{runs, starts};
 use tables::{checks, verdicts};
 use texts::{readings, reports, writings};
@@ -56,7 +58,7 @@ const EDGES: [u32; 12] = [
 pub fn cases() -> String {
     let parts = [
         jobs, pairs, checks, verdicts, starts, runs, counts, readings, writings, reports, held,
-        to_new, to_old, replays,
+        to_new, to_old, replays, rooms,
     ];
     let written = parts.iter().zip(1..).map(|(part, seed)| {
         let mut cases = Cases::new(seed);

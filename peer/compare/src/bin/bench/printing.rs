@@ -14,7 +14,7 @@ use peer::report::{report_into, report_leaping_into};
 use super::timing::line;
 
 /// Bytes that are always room enough, by the first program's own word.
-const ENOUGH: usize = 5_120;
+const ENOUGH: usize = 5_632;
 
 /// Both samples as a function, and the longer one as a process.
 pub fn all() -> bool {

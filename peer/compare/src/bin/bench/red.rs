@@ -12,12 +12,12 @@ use super::verdicts::timed_verdicts;
 /// Rows of the tables for the verdict.
 const ROWS: usize = 16;
 
-/// Verdicts on tables of deeply-red rows, admitted with no unit of work to spare. A
+/// Verdicts and rooms of tables of deeply-red rows, admitted with no unit of work to spare. A
 /// copy draws for them, so that the tables of the other lines stay as they are.
 pub fn verdicts(rng: &Rng) -> bool {
     [2_000, 65_535].into_iter().all(|d_max| {
         let tables = tables_of(&mut rng.clone(), ROWS, d_max, Patterns::Red);
-        timed_verdicts(&format!("verdict_{ROWS}_rows_d_{d_max}_red"), &tables)
+        timed_verdicts(&format!("{ROWS}_rows_d_{d_max}_red"), &tables)
     })
 }
 

@@ -117,15 +117,16 @@ pub fn limit(course: &mut Course) -> Compared {
 }
 
 /// Every row of tables of every size the first that does not fit, its C one past
-/// its D, and rows below it that do not fit either or do.
+/// its D, and rows below it that do not fit either or do: their D is so much longer that
+/// they have room.
 pub fn misfits(course: &mut Course) -> Compared {
     for rows in 1..=ROWS_MAX {
         let rng = &mut course.rng;
         let mut light = sound(rng, rows, 9);
         for (row, seven) in light.chunks_exact_mut(ROW_WORDS).enumerate() {
             seven[1] = 1;
-            seven[2] = 40 + row as u32;
-            seven[3] = 32 + row as u32;
+            seven[2] = 40 + 200 * row as u32;
+            seven[3] = 32 + 200 * row as u32;
         }
         same_report_in(course, &input_of(100, &light), near)?;
         for row in 0..rows {
