@@ -1,14 +1,14 @@
 -- What the verdict's words say in numbers, by the laws of the first hit.
 use mathlib.Core.Bool.{true, false, not}
 use mathlib.Core.List.{List}
-use mathlib.Core.Path.{_≡_}
+use mathlib.Core.Path.{_≡_, ap}
 use Prim.Native.Nat.{ℕ, _≤_, _<_}
 use native.Mathlib.Omega.{arith}
 use lib.ListN.{length}
 use borrow.Author.Tests.{eqb-true, eqb-false, leb-true, leb-false, le-leb, not-true, not-false}
 use Rattle.law.specs.Table.{Task, row}
 use Rattle.law.specs.Verdict.{load, fitsAt, response, fits, misfit, admitted}
-use Rattle.law.proofs.First.{first-low, first-high, first-found, first-before, first-least}
+use Rattle.law.proofs.First.{first-low, first-high, first-found, first-before, first-least, first-is}
 
 -- a row that fits has a response time up to its deadline, at which its load fits; no earlier tick does
 module _ (tasks : List Task) (i : ℕ) where
@@ -37,6 +37,13 @@ module _ (tasks : List Task) where
   pub fits-above : (i : ℕ) → i < misfit tasks → fits tasks i ≡ true
   unfolding misfit
   fits-above i l = not-false (fits tasks i) (first-before (λ j. not (fits tasks j)) 0 (length tasks) i (omega arith) l)
+
+  -- told by the rows down to it
+  pub misfit-is : (i : ℕ) → i ≤ length tasks → ((j : ℕ) → j < i → fits tasks j ≡ true) → (i < length tasks → fits tasks i ≡ false)
+      → misfit tasks ≡ i
+  unfolding misfit
+  misfit-is i h up own =
+      first-is (λ j. not (fits tasks j)) 0 (length tasks) i (omega arith) (omega arith) (λ l. ap not (own (omega arith))) (λ j a b. ap not (up j b))
 
   pub misfit-fails : misfit tasks < length tasks → fits tasks (misfit tasks) ≡ false
   unfolding misfit

@@ -1,12 +1,12 @@
 -- The room of a row: it is reached at some tick and passed at none, a row fits exactly when its C is at most its room, and what a planner may do with it.
-use mathlib.Core.Bool.{true, not}
+use mathlib.Core.Bool.{true}
 use mathlib.Core.List.{List, [], _∷_, _++_}
 use mathlib.Core.Path.{_≡_, refl, sym, ap, _∙_, subst}
 use Prim.Native.Nat.{ℕ, zero, suc, _+_, _-_, _≤_, _<_}
 use native.Mathlib.Decide.{decLt, ℕ-discrete}
 use native.Mathlib.Omega.{arith}
 use lib.Dec.{leb}
-use lib.ListN.{length, drop, length-set}
+use lib.ListN.{length, getD, drop, length-set, length-append, List·getD-append}
 use lib.Seq.{getD-set-same, getD-set-other}
 use borrow.Author.Tests.{le-leb, lt-leb}
 use Rattle.law.specs.Sums.{larger, highest, firstFrom}
@@ -15,10 +15,10 @@ use Rattle.law.specs.Table.{Task, noTask, row, Ranged, WellFormed, table
 use Rattle.law.specs.Verdict.{demand, above, load, fitsAt, response, fits, misfit}
 use Rattle.law.specs.Room.{roomAt, room, rooms, roomsAnswer, roomsLent, withC, withCAt, Planned}
 use Rattle.law.proofs.Tests.{passes, fails, known, never-both}
-use Rattle.law.proofs.First.{first-is, first-cong}
+use Rattle.law.proofs.First.{first-cong, build-length, build-at}
 use Rattle.law.proofs.Sums.{sum-cong}
 use Rattle.law.proofs.Verdict.{Sought, fits-yes}
-use Rattle.law.proofs.Fits.{fits-deadline, fits-load, response-low, response-least}
+use Rattle.law.proofs.Fits.{fits-deadline, fits-load, response-low, response-least, misfit-is}
 
 -- the larger of two numbers
 module _ (a b : ℕ) where
@@ -199,12 +199,9 @@ module _ (tasks : List Task) (i : ℕ) (h : i < length tasks) (c : ℕ) where
   with-fits-above j l = ap (λ (z : ℕ). leb z (row (withCAt tasks i c) j .d)) (with-response j l) ∙ ap (leb (response tasks j)) (with-d j)
 
   with-named : room tasks i < c → ((j : ℕ) → j < i → fits tasks j ≡ true) → misfit (withCAt tasks i c) ≡ i
-  unfolding misfit
   with-named l up =
-      first-is (λ j. not (fits (withCAt tasks i c) j)) 0 (length (withCAt tasks i c)) i (omega arith)
-      (omega (arith, length-set tasks i (withC c (row tasks i))))
-      (λ q. ap not (with-fits (omega arith) ∙ lt-leb c (room tasks i) l))
-      (λ j a b. ap not (with-fits-above j b ∙ up j b))
+      misfit-is (withCAt tasks i c) i (omega (arith, length-set tasks i (withC c (row tasks i)))) (λ j b. with-fits-above j b ∙ up j b)
+      (λ q. with-fits (omega arith) ∙ lt-leb c (room tasks i) l)
 
   with-ranged : WellFormed tasks → 1 ≤ c → c ≤ 65535 → (j : ℕ) → j < length tasks → Ranged (row (withCAt tasks i c) j)
   with-ranged w low high j l =
@@ -243,14 +240,13 @@ pub planned : (tasks : List Task) → WellFormed tasks → (i : ℕ) → i < len
 planned tasks w i h =
     record {
       still-a-table = λ c. with-table tasks i h c w;
-      same-room = λ c. with-room tasks i h c i (omega arith);
+      same-rooms = λ c j. with-room tasks i h c j;
       fits-with-it = λ low. with-fits tasks i h (room tasks i) low ∙ le-leb (room tasks i) (room tasks i) (omega arith);
       not-with-more = λ c l. with-fits tasks i h c (omega arith) ∙ lt-leb c (room tasks i) l;
       named = λ c. with-named tasks i h c;
       above-as-before = λ c j l. (
         with-other tasks i h c j (λ (e : j ≡ i). omega arith),
         with-response tasks i h c j l,
-        with-room tasks i h c j (omega arith),
       );
     }
 
@@ -275,3 +271,20 @@ module _ (words : List ℕ) (run : List ℕ) where
     rooms-told h =
         let e = le-leb (length (tableOf words)) (length run) h in
         (rw (good, e), rw (good, e))
+
+    -- the words of the run are the rooms, row by row
+    module _ (h : length (tableOf words) ≤ length run) where
+      rooms-long : length (rooms (tableOf words)) ≡ length (tableOf words)
+      unfolding rooms
+      rooms-long = build-length (room (tableOf words)) (length (tableOf words))
+
+      pub rooms-at : (i : ℕ) → i < length (tableOf words) → getD (roomsLent words run) i 0 ≡ room (tableOf words) i
+      unfolding rooms
+      rooms-at i l =
+          ap (λ (z : List ℕ). getD z i 0) (rooms-told h .1)
+          ∙ List·getD-append (rooms (tableOf words)) (drop (length (tableOf words)) run) 0 i (omega (arith, rooms-long))
+          ∙ build-at (room (tableOf words)) (length (tableOf words)) i 0 l
+
+      pub rooms-enough : length (tableOf words) ≤ length (roomsLent words run)
+      rooms-enough =
+          omega (arith, ap length (rooms-told h .1), length-append (rooms (tableOf words)) (drop (length (tableOf words)) run), rooms-long)

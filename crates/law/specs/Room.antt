@@ -41,12 +41,12 @@ withC c r = record { id = r .id; c = c; t = r .t; d = r .d; m = r .m; k = r .k; 
 abbrev pub withCAt : List Task → ℕ → ℕ → List Task
 withCAt tasks i c = set tasks i (withC c (row tasks i))
 
--- for a planner who looks at row i and leaves every other row as it is: another C within its range keeps the table well formed and the row's room; with
+-- for a planner who looks at row i and leaves every other row as it is: another C within its range keeps the table well formed and the rooms down to the row; with
 -- its room for its C the row fits, with more it doesn't, and is named where the rows above fit; rows above stay as they are
 pub record Planned (tasks : List Task) (i : ℕ) : Type 0 where
   pub still-a-table : (c : ℕ) → 1 ≤ c → c ≤ 65535 → WellFormed (withCAt tasks i c)
-  pub same-room : (c : ℕ) → room (withCAt tasks i c) i ≡ room tasks i
+  pub same-rooms : (c j : ℕ) → j ≤ i → room (withCAt tasks i c) j ≡ room tasks j
   pub fits-with-it : 1 ≤ room tasks i → fits (withCAt tasks i (room tasks i)) i ≡ true
   pub not-with-more : (c : ℕ) → room tasks i < c → fits (withCAt tasks i c) i ≡ false
   pub named : (c : ℕ) → room tasks i < c → ((j : ℕ) → j < i → fits tasks j ≡ true) → misfit (withCAt tasks i c) ≡ i
-  pub above-as-before : (c j : ℕ) → j < i → (row (withCAt tasks i c) j ≡ row tasks j) × (response (withCAt tasks i c) j ≡ response tasks j) × (room (withCAt tasks i c) j ≡ room tasks j)
+  pub above-as-before : (c j : ℕ) → j < i → (row (withCAt tasks i c) j ≡ row tasks j) × (response (withCAt tasks i c) j ≡ response tasks j)

@@ -1,56 +1,31 @@
 -- The rooms that are told decide the verdict, and are what a planner may give a row: the law's `fits-room` and `planned`, over answers and words.
-use mathlib.Core.Bool.{true, false, not}
+use mathlib.Core.Bool.{true, false}
 use mathlib.Core.List.{List, [], _∷_}
 use mathlib.Core.Path.{_≡_, sym, ap, _∙_, subst}
 use Prim.Native.Nat.{ℕ, suc, _+_, _*_, _/_, _%_, _≤_, _<_}
 use native.Mathlib.Decide.{decLt, ℕ-discrete}
 use native.Mathlib.Omega.{arith}
 use lib.Dec.{leb}
-use lib.ListN.{length, getD, set, drop, length-set, List·getD-append}
+use lib.ListN.{length, getD, set, length-set}
 use lib.Seq.{getD-set-same, getD-set-other, ext-getD}
 use borrow.Author.Tests.{leb-true, lt-leb}
 use Rattle.law.specs.Refusal.{accepted, refused}
 use Rattle.law.specs.Table.{Task, taskOf, taskAt, tableOf, noTask, row, WellFormed, checked}
 use Rattle.law.specs.Verdict.{fits, misfit, verdict}
-use Rattle.law.specs.Room.{room as roomOf, rooms, roomsAnswer, withC, withCAt, Planned}
+use Rattle.law.specs.Room.{room as roomOf, roomsAnswer, withC, withCAt, Planned}
 use Rattle.law.proofs.Tests.{never-both}
-use Rattle.law.proofs.First.{first-is, build-length, build-at}
 use Rattle.law.proofs.Table.{table-length, table-row, passed-on, Accepted, checked-accepted, well-formed-accepted}
 use Rattle.law.proofs.Verdict.{after-accepted, LateBy, late-says, verdict-late, verdict-admitted}
-use Rattle.law.proofs.Fits.{misfit-fails}
-use Rattle.law.proofs.Room.{fits-room, roomy-fits, with-own, with-other, with-fits-above, planned, rooms-told}
+use Rattle.law.proofs.Fits.{misfit-is, misfit-fails}
+use Rattle.law.proofs.Room.{fits-room, roomy-fits, with-own, with-other, with-fits-above, planned, rooms-told, rooms-at}
 use Rattle.promise.specs.Promised.{rowsIn}
 use Rattle.promise.specs.RoomsTell.{ownC, told, AboveFit, WithC, RoomsTell}
 
--- the first row that doesn't fit, told by the rows down to it
-misfit-is : (tasks : List Task) (i : ℕ) → i ≤ length tasks → ((j : ℕ) → j < i → fits tasks j ≡ true)
-    → (i < length tasks → fits tasks i ≡ false) → misfit tasks ≡ i
-unfolding misfit
-misfit-is tasks i h up own =
-    first-is (λ j. not (fits tasks j)) 0 (length tasks) i (omega arith) (omega arith) (λ l. ap not (own (omega arith)))
-    (λ j a b. ap not (up j b))
-
--- and then the verdict names it
+-- the verdict names the first row that doesn't fit
 named-in : (words room vs : List ℕ) → checked words ≡ accepted vs → rowsIn words ≤ length room → (i : ℕ) → i < rowsIn words
     → misfit (tableOf words) ≡ i → verdict words (length room) ≡ refused 11 (i ∷ [])
 named-in words room vs good enough i h first =
     verdict-late words room vs good enough (omega (arith, first)) .0 ∙ ap (λ (z : ℕ). refused 11 (z ∷ [])) first
-
-rooms-length : (tasks : List Task) → length (rooms tasks) ≡ length tasks
-unfolding rooms
-rooms-length tasks = build-length (roomOf tasks) (length tasks)
-
-room-in : (tasks : List Task) (i : ℕ) → i < length tasks → getD (rooms tasks) i 0 ≡ roomOf tasks i
-unfolding rooms
-room-in tasks i h = build-at (roomOf tasks) (length tasks) i 0 h
-
--- the words in the lent run are the rooms
-told-is : (table run vs : List ℕ) → checked table ≡ accepted vs → rowsIn table ≤ length run → (i : ℕ) → i < rowsIn table
-    → told table run i ≡ roomOf (tableOf table) i
-told-is table run vs good long i h =
-    ap (λ (z : List ℕ). getD z i 0) (rooms-told table run vs good long .1)
-    ∙ List·getD-append (rooms (tableOf table)) (drop (length (tableOf table)) run) 0 i (omega (arith, rooms-length (tableOf table)))
-    ∙ room-in (tableOf table) i h
 
 -- what an accepted call says: the words are a table, and the run is long enough
 says : (table : List ℕ) (n : ℕ) (vs : List ℕ) → roomsAnswer table n ≡ accepted vs
@@ -75,7 +50,7 @@ module _ (table run room vs : List ℕ) (e : roomsAnswer table (length run) ≡ 
   a = checked-accepted table ws good
 
   tells : (i : ℕ) → i < rowsIn table → told table run i ≡ roomOf (tableOf table) i
-  tells = told-is table run ws good long
+  tells = rooms-at table run ws good long
 
   above-fit : (i : ℕ) → i ≤ rowsIn table → AboveFit table run i → (j : ℕ) → j < i → fits (tableOf table) j ≡ true
   above-fit i h up j l = roomy-fits (tableOf table) j (a .table .ranged j (omega arith) .c-low) (omega (arith, up j l, tells j (omega arith)))
@@ -96,17 +71,10 @@ module _ (table run room vs : List ℕ) (e : roomsAnswer table (length run) ≡ 
         well-formed-accepted other (ap (λ (z : ℕ). z % 7) (with .long) ∙ a .whole)
         (subst WellFormed (sym (with .rows)) (plan i h .still-a-table c low high))
 
-    same-rooms : (j : ℕ) → j ≤ i → roomOf (withCAt (tableOf table) i c) j ≡ roomOf (tableOf table) j
-    same-rooms j l =
-        elim (decLt j i) [
-          | yes q ↦ plan i h .above-as-before c j q .2
-          | no q ↦ let own : j ≡ i = omega arith in rw own (plan i h .same-room c)
-        ]
-
     tells-too : 1 ≤ c → c ≤ 65535 → (j : ℕ) → j ≤ i → told other run j ≡ told table run j
     tells-too low high j l =
-        told-is other run _ (good-too low high) (omega (arith, many, long)) j (omega (arith, many))
-        ∙ ap (λ (z : List Task). roomOf z j) (with .rows) ∙ same-rooms j l ∙ sym (tells j (omega arith))
+        rooms-at other run _ (good-too low high) (omega (arith, many, long)) j (omega (arith, many))
+        ∙ ap (λ (z : List Task). roomOf z j) (with .rows) ∙ plan i h .same-rooms c j l ∙ sym (tells j (omega arith))
 
   -- a row named does not fit; with its room for its C row i does, and rows above it do if they did
   module _ (other : List ℕ) (i j : ℕ) (h : i < rowsIn table) (low : 1 ≤ told table run i) (with : WithC table other i (told table run i)) (late : LateBy other j) where

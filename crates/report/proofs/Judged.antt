@@ -10,13 +10,13 @@ use borrow.Author.Tests.{eqb-true, eqb-false}
 use Rattle.law.specs.Refusal.{Answer, accepted, refused, codeOf}
 use Rattle.law.specs.Table.{tableOf, row, Ranged}
 use Rattle.law.specs.Verdict.{admitted, misfit, response, responses, verdict, verdictRoom}
-use Rattle.law.specs.Room.{room, rooms, roomsLent}
+use Rattle.law.specs.Room.{roomsLent}
 use Rattle.law.specs.Report.{admittedLine, unschedulableLine, atKey, numberLines, verdictPrinted, responsePrinted}
 use Rattle.law.proofs.Tests.{passes, fails, known}
 use Rattle.law.proofs.First.{build-length, build-at}
 use Rattle.law.proofs.Table.{checked-accepted}
 use Rattle.law.proofs.Verdict.{misfit-most, verdict-late, verdict-admitted}
-use Rattle.law.proofs.Room.{rooms-told}
+use Rattle.law.proofs.Room.{rooms-at, rooms-enough}
 use Rattle.report.specs.Said.{Good, Responded, Roomed}
 
 -- what a refusal also returns
@@ -33,15 +33,11 @@ module _ {words : List ℕ} (good : Good words) where
 
   -- the rooms stand in a run of zeros, whatever the verdict
   pub roomed : Roomed (tableOf words) (roomsLent words (replicate 32 0))
-  unfolding rooms
   roomed =
-      let e = rooms-told words (replicate 32 0) (good .values) (good .is) (omega (arith, good-few, length-replicate {A = ℕ} 32 0)) .1 in
-      let n = build-length (room (tableOf words)) (length (tableOf words)) in
+      let long : length (tableOf words) ≤ length (replicate {A = ℕ} 32 0) = omega (arith, good-few, length-replicate {A = ℕ} 32 0) in
       record {
-        enough = omega (arith, ap length e, length-append (rooms (tableOf words)) (drop (length (tableOf words)) (replicate 32 0)), n);
-        at = λ i h. ap (λ (z : List ℕ). getD z i 0) e
-            ∙ List·getD-append (rooms (tableOf words)) _ 0 i (omega (arith, n))
-            ∙ build-at (room (tableOf words)) (length (tableOf words)) i 0 h;
+        enough = rooms-enough words (replicate 32 0) (good .values) (good .is) long;
+        at = rooms-at words (replicate 32 0) (good .values) (good .is) long;
       }
 
   module _ (all : admitted (tableOf words) ≡ true) where

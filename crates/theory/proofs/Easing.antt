@@ -1,9 +1,9 @@
 -- A lighter table is judged no worse: where every row brings no more to the rows below it and asks no more for itself, every load is no larger, so a row
 -- that fits fits still, and no later. A row that is made even is lighter, for no pattern counts more than the deeply-red one.
-use mathlib.Core.Bool.{Bool, true, false, not}
+use mathlib.Core.Bool.{Bool, true, false}
 use mathlib.Core.List.{List}
 use mathlib.Core.Logic.{⊎-elim}
-use mathlib.Core.Path.{_≡_, refl, sym, ap, _∙_, subst}
+use mathlib.Core.Path.{_≡_, refl, sym, _∙_, subst}
 use Prim.Native.Nat.{ℕ, _≤_, _<_}
 use native.Mathlib.Nat.{mul-le-mul-left}
 use native.Mathlib.Omega.{arith}
@@ -14,12 +14,12 @@ use Rattle.law.specs.Pattern.{count, redCount}
 use Rattle.law.specs.Table.{Task, row, isRed, countOf, Ranged, WellFormed}
 use Rattle.law.specs.Verdict.{demand, load, fitsAt, response, fits, misfit, admitted}
 use Rattle.law.specs.Easing.{evenRow, Evened, Eased}
-use Rattle.law.proofs.First.{first-high, first-is}
+use Rattle.law.proofs.First.{first-high}
 use Rattle.law.proofs.Pattern.{even}
 use Rattle.law.proofs.Red.{red-most}
 use Rattle.law.proofs.Sums.{sum-mono}
 use Rattle.law.proofs.Tests.{known, passes, fails}
-use Rattle.law.proofs.Fits.{fits-deadline, fits-load, response-least, response-low, response-late, admitted-fits}
+use Rattle.law.proofs.Fits.{fits-deadline, fits-load, response-least, response-low, response-late, misfit-is, admitted-fits}
 
 -- what a row may become
 pub record Lighter (old new : Task) : Type 0 where
@@ -49,11 +49,10 @@ module _ (before after : List Task) (many : length after ≡ length before)
       le-leb (response after i) (row after i .d) (omega (arith, no-later i h e, fits-deadline before i e, each i h .later))
 
   pub admitted-still : admitted before ≡ true → admitted after ≡ true
-  unfolding admitted misfit
+  unfolding admitted
   admitted-still e =
       eq-eqb (misfit after) (length after)
-      (first-is (λ i. not (fits after i)) 0 (length after) (length after) (omega arith) (omega arith) (λ l. absurd (omega arith))
-      (λ i l h. ap not (fits-still i (omega arith) (admitted-fits before e i (omega arith)))))
+      (misfit-is after (length after) (omega arith) (λ i h. fits-still i (omega arith) (admitted-fits before e i (omega arith))) (λ l. absurd (omega arith)))
 
 -- a row made even
 even-counts : (r : Task) → Ranged r → (q : ℕ) → countOf (evenRow r) q ≤ countOf r q
