@@ -6,8 +6,8 @@ mod tables;
 mod texts;
 
 pub use limit::{
-    any_shape, around_limit, full_table, limit_pair, short_cycle_pair, slow_table, LimitPair,
-    Patterns, Shape,
+    any_shape, around_limit, far_tables, full_table, limit_pair, short_cycle_pair, slow_table,
+    LimitPair, Patterns, Shape,
 };
 pub use states::{
     every_bit, followed, row_counts, state_lengths, state_room, state_room_of, ticks,

@@ -5,7 +5,7 @@
 //! the verdict that asks for each row's room.
 
 use peer::brute::verdict::verdict;
-use peer::gen::{boundary_table, loaded_table, table, tiny_table, wide_table};
+use peer::gen::{loaded_table, tiny_table};
 use peer::pattern::{EVEN, RED};
 use peer::rooms::verdict_by_rooms;
 use peer::table::{ROWS_MAX, ROW_WORDS};
@@ -13,7 +13,7 @@ use peer::verdict::verdict_leaping;
 
 use super::Comparison;
 use crate::course::{shown, Compared, Course};
-use crate::draw::{apart, around_limit, limit_pair, room, room_of};
+use crate::draw::{apart, around_limit, far_tables, limit_pair, room, room_of};
 use crate::draw::{slow_table, sound};
 use crate::draw::{LimitPair, Shape};
 use crate::ffi;
@@ -175,20 +175,11 @@ fn slow(course: &mut Course) -> Compared {
 /// Periods and deadlines up to the ends of their ranges.
 fn large(course: &mut Course) -> Compared {
     for round in 0..LARGE {
-        let rng = &mut course.rng;
-        for words in [boundary_table(rng), wide_table(rng), table(rng)] {
-            same_drawn(course, &words)?;
-        }
         // The walk is long; few of these tables have many rows.
         let rows = if round % 20 == 0 { ROWS_MAX } else { 6 };
-        let shape = Shape {
-            rows: 1 + course.rng.index(rows),
-            t_low: 200,
-            t_high: 65_535,
-        };
-        let LimitPair { within, past } = limit_pair(&mut course.rng, shape);
-        same_drawn(course, &within)?;
-        same_drawn(course, &past)?;
+        for words in far_tables(&mut course.rng, rows) {
+            same_drawn(course, &words)?;
+        }
     }
     Ok(())
 }

@@ -4,7 +4,7 @@
 //! quick. It only finds cases: what is compared is judged by the walking one.
 
 use peer::dispatch::P;
-use peer::gen::draw_patterns;
+use peer::gen::{boundary_table, draw_patterns, table, wide_table};
 use peer::pattern::{EVEN, RED};
 use peer::rng::Rng;
 use peer::table::{ROWS_MAX, ROW_WORDS, WORD_MAX};
@@ -87,6 +87,24 @@ pub fn around_limit(rng: &mut Rng) -> Vec<Vec<u32>> {
     let LimitPair { within, past } = limit_pair(rng, shape);
     tables.extend([within, past]);
     tables
+}
+
+/// Tables with periods and deadlines up to the ends of their ranges, and a pair at the
+/// limit, of up to so many rows, with periods as long.
+pub fn far_tables(rng: &mut Rng, rows: usize) -> [Vec<u32>; 5] {
+    let shape = Shape {
+        rows: 1 + rng.index(rows),
+        t_low: 200,
+        t_high: 65_535,
+    };
+    let LimitPair { within, past } = limit_pair(rng, shape);
+    [
+        boundary_table(rng),
+        wide_table(rng),
+        table(rng),
+        within,
+        past,
+    ]
 }
 
 /// The same for tables of so many rows whose patterns and periods soon begin

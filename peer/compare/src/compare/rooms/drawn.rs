@@ -1,6 +1,6 @@
 //! Tables of every kind that there is a generator for, and rooms of every length.
 
-use peer::gen::{boundary_table, loaded_table, table, tiny_table, wide_table};
+use peer::gen::{loaded_table, tiny_table};
 use peer::pattern::{EVEN, RED};
 use peer::table::{ROWS_MAX, ROW_WORDS};
 use peer::verdict::verdict_leaping;
@@ -8,7 +8,7 @@ use peer::verdict::verdict_leaping;
 use super::super::verdict::{small_pairs, small_rows, small_table};
 use super::{same_drawn, same_rooms};
 use crate::course::{Compared, Course, Difference};
-use crate::draw::{around_limit, limit_pair, room_of, slow_table, sound};
+use crate::draw::{around_limit, far_tables, limit_pair, room_of, slow_table, sound};
 use crate::draw::{LimitPair, Shape};
 use crate::ffi;
 
@@ -104,20 +104,11 @@ pub fn slow(course: &mut Course) -> Compared {
 /// Periods and deadlines up to the ends of their ranges.
 pub fn large(course: &mut Course) -> Compared {
     for round in 0..LARGE {
-        let rng = &mut course.rng;
-        for words in [boundary_table(rng), wide_table(rng), table(rng)] {
-            same_drawn(course, &words)?;
-        }
         // The walk is long; few of these tables have many rows.
         let rows = if round % 20 == 0 { ROWS_MAX } else { 6 };
-        let shape = Shape {
-            rows: 1 + course.rng.index(rows),
-            t_low: 200,
-            t_high: 65_535,
-        };
-        let LimitPair { within, past } = limit_pair(&mut course.rng, shape);
-        same_drawn(course, &within)?;
-        same_drawn(course, &past)?;
+        for words in far_tables(&mut course.rng, rows) {
+            same_drawn(course, &words)?;
+        }
     }
     Ok(())
 }
