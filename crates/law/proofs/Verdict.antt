@@ -86,11 +86,6 @@ unfolding response fitsAt
 sought-fits tasks i t s l f =
     first-is (fitsAt tasks i) 1 (row tasks i .d) t (s .started) (omega arith) (λ q. le-leb _ t f) (s .before)
 
-pub sought-never : (tasks : List Task) (i t : ℕ) → Sought tasks i t → row tasks i .d < t → response tasks i ≡ 1 + row tasks i .d
-unfolding response
-sought-never tasks i t s l =
-    first-is (fitsAt tasks i) 1 (row tasks i .d) (1 + row tasks i .d) (omega arith) (omega arith) (λ q. absurd (omega arith)) (λ j a b. s .before j a (omega arith))
-
 pub sought-leap : (tasks : List Task) → WellFormed tasks → (i : ℕ) → i < length tasks → (t : ℕ) → Sought tasks i t → t < load tasks i t
     → Sought tasks i (load tasks i t)
 sought-leap tasks w i h t s l =
@@ -106,10 +101,6 @@ sought-leap tasks w i h t s l =
 pub fits-yes : (tasks : List Task) (i : ℕ) → response tasks i ≤ row tasks i .d → fits tasks i ≡ true
 unfolding fits
 fits-yes tasks i h = le-leb _ _ h
-
-pub fits-no : (tasks : List Task) (i : ℕ) → row tasks i .d < response tasks i → fits tasks i ≡ false
-unfolding fits
-fits-no tasks i h = lt-leb _ _ h
 
 pub misfit-most : (tasks : List Task) → misfit tasks ≤ length tasks
 unfolding misfit
