@@ -1,4 +1,6 @@
 // The pattern book, and the question about one job.
+#![tactic(auto)]
+
 ghost use Rattle.std.specs.Prelude.{[], ◌≡◌, ◌<◌, ◌≤◌, ◌-◌, ◌/◌, ◌%◌, ◌^◌, eqb};
 ghost use Rattle.law.specs.Refusal.{accepted};
 ghost use Rattle.law.specs.Pattern.{InRange, the_book, word, mandatory, pair_checked, pair_word, question};
@@ -10,7 +12,7 @@ use refusal::{Refusal, is_within};
 use words::BOOK;
 
 // What is known of one job.
-#[derive(Drop)]
+#[derive(Clone, Copy)]
 pub enum Job {
     Mandatory,
     Optional,
@@ -18,7 +20,7 @@ pub enum Job {
 }
 
 // The word of a pair.
-#[derive(Drop)]
+#[derive(Clone, Copy)]
 pub enum Word {
     Is(u64),
     Refused(Refusal),
@@ -66,7 +68,7 @@ pub fn bit_at(pattern: u64, place: u64) -> bool
 }
 
 // Whether a pair that a caller offers is in range, or why not.
-#[derive(Drop)]
+#[derive(Clone, Copy)]
 enum Pair {
     Good,
     Refused(Refusal),

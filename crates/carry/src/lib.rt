@@ -1,4 +1,6 @@
 // Old task files carried over, and back: a text of six lines a row into one of seven, with `p=0`, and back where every p is 0.
+#![tactic(auto)]
+
 ghost use Rattle.std.specs.Prelude.{◌≡◌, ◌+◌, ◌*◌, ◌≤◌, ◌<◌, ltb, length, get_or, take};
 ghost use Rattle.law.specs.Sums.{pick};
 ghost use Rattle.law.specs.Table.{table_of};

@@ -14,7 +14,7 @@ use tick::rows_of;
 
 // Released jobs, mandatory met and missed, optional met and missed, broken windows, and spare: how many further misses in a row are
 // harmless.
-#[derive(Drop)]
+#[derive(Clone, Copy)]
 pub struct Counts {
     pub released: u64,
     pub mm: u64,

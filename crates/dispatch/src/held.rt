@@ -7,7 +7,7 @@ use refusal::{Refusal, is_within};
 use rows::{STATE_WORDS, word};
 
 // The number of met marks that a row's window holds, or why it is not told.
-#[derive(Drop)]
+#[derive(Clone, Copy)]
 pub enum Marks {
     Held(u64),
     Refused(Refusal),

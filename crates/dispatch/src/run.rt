@@ -10,14 +10,14 @@ use tick::patterns::fetch;
 use tick::ticks;
 
 // Whether a run was made, or why not.
-#[derive(Drop)]
+#[derive(Clone, Copy)]
 pub enum Ran {
     Done,
     Refused(Refusal),
 }
 
 // A run's answer, and the state after it.
-#[derive(Drop)]
+#[derive(Clone, Copy)]
 pub struct After {
     pub answer: Ran,
     pub state: State,

@@ -14,14 +14,14 @@ use table::{Checked, Task, WIDTH, check, task_at};
 use tally::Tally;
 
 // Whether a fresh state was laid, with its number of rows, or why not.
-#[derive(Drop)]
+#[derive(Clone, Copy)]
 pub enum Started {
     Rows(usize),
     Refused(Refusal),
 }
 
 // The answer, and the state, which is all zero where it was refused.
-#[derive(Drop)]
+#[derive(Clone, Copy)]
 pub struct Begun {
     pub answer: Started,
     pub state: State,

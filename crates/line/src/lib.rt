@@ -1,4 +1,6 @@
 // One line of a task text: read at a place, and put at a place; and the lines of a refusal.
+#![tactic(auto)]
+
 pub mod put;
 pub mod read;
 pub mod refused;

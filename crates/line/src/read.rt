@@ -7,7 +7,7 @@ ghost use Rattle.line.specs.Said.{said, place_of};
 use refusal::is_within;
 
 // What a line says: its value and the place after it; or the place of a fault.
-#[derive(Drop)]
+#[derive(Clone, Copy)]
 pub enum Value {
     Is(u64, usize),
     Fault(usize),

@@ -1,4 +1,6 @@
 // What a converting program says: the text to standard output and nothing else, or a refusal to standard error.
+#![tactic(auto)]
+
 ghost use Rattle.std.specs.Prelude.{◌≡◌, ◌≤◌, length};
 ghost use Rattle.law.specs.Carry.{out_of, error_of};
 ghost use Rattle.line.specs.Put.{put_at};
@@ -10,7 +12,7 @@ use line::refused::put_refusal;
 use text::write::Written;
 
 // So many bytes of the text go to standard output, so many of the refusal to standard error.
-#[derive(Drop)]
+#[derive(Clone, Copy)]
 pub(crate) struct Streams {
     pub out: usize,
     pub error: usize,

@@ -1,10 +1,12 @@
 // The refusals of documents 01 and 02: one enum, made where the fault is found and numbered here, once.
+#![tactic(auto)]
+
 ghost use Rattle.std.specs.Prelude.{◌≡◌};
 ghost use Rattle.law.specs.Refusal.{code_of, value_of, within};
 ghost use Rattle.refusal.specs.Shown.{shown, has_also};
 
 // A refusal and, where a row or a place is also returned, the row or the place that goes with it.
-#[derive(Drop)]
+#[derive(Clone, Copy)]
 pub enum Refusal {
     NotWholeRows,
     NoRows,

@@ -1,4 +1,6 @@
 // A replay: the same dispatcher, with the lengths of a log in place of C.
+#![tactic(auto)]
+
 ghost use Rattle.std.specs.Prelude.{◌≡◌, ◌+◌, ◌≤◌, length};
 ghost use Rattle.law.specs.Tick.{clock_end};
 ghost use Rattle.law.specs.State.{state_of};
@@ -16,21 +18,21 @@ use tick::finish;
 use tick::patterns::fetch;
 
 // Ticks done and numbers used.
-#[derive(Drop)]
+#[derive(Clone, Copy)]
 pub struct Progress {
     pub ticks: u64,
     pub used: u64,
 }
 
 // How far a replay came, or why it was not made.
-#[derive(Drop)]
+#[derive(Clone, Copy)]
 pub enum Replayed {
     Done(Progress),
     Refused(Refusal),
 }
 
 // A replay's answer, and the state after it.
-#[derive(Drop)]
+#[derive(Clone, Copy)]
 pub struct After {
     pub answer: Replayed,
     pub state: State,

@@ -13,7 +13,7 @@ use rows::word;
 use tick::{one, release_row, rows_of};
 
 // The place of a number of the log that is out of range; or the place after the numbers used.
-#[derive(Drop)]
+#[derive(Clone, Copy)]
 pub(crate) struct Step {
     pub(crate) bad: bool,
     pub(crate) next: usize,

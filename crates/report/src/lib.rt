@@ -1,4 +1,6 @@
 // The printing program as a function: the bytes that it reads in, the bytes that it prints out.
+#![tactic(auto)]
+
 ghost use Rattle.std.specs.Prelude.{◌≡◌, length};
 ghost use Rattle.law.specs.Report.{printed, report_answer, report_room};
 ghost use Rattle.line.specs.Put.{put_at};
@@ -15,7 +17,7 @@ use table::WIDTH;
 use text::read::{Reading, read};
 
 // The length of what is printed, or that the room is too short for it.
-#[derive(Drop)]
+#[derive(Clone, Copy)]
 pub enum Printed {
     Length(usize),
     Refused(Refusal),

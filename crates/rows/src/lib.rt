@@ -1,4 +1,6 @@
 // Where a row stands among the words of a state: the number of rows, the time and the idle count come first, then twenty words a row.
+#![tactic(auto)]
+
 ghost use Rattle.std.specs.Prelude.{◌≡◌, ◌+◌, ◌*◌, ◌<◌, length, get_or, set};
 ghost use Rattle.law.specs.State.{row_at, sets_from, words_of};
 ghost use Rattle.table.specs.Said.{task_said};
@@ -18,13 +20,13 @@ pub const STRIDE: usize = 20;
 pub const STATE_WORDS: usize = 643;
 
 // A state by value: the same words that a firmware saves.
-#[derive(Drop)]
+#[derive(Clone, Copy)]
 pub struct State {
     pub words: [u64; 643],
 }
 
 // One row: its task, the core (wait, place, live job) and the tally.
-#[derive(Drop)]
+#[derive(Clone, Copy)]
 pub struct Row {
     pub task: Task,
     pub wait: u64,

@@ -1,4 +1,6 @@
 // The printing program: standard input to standard output, and nothing else. What is printed is `report`'s.
+#![tactic(auto)]
+
 use libc::{STDIN_FILENO, STDOUT_FILENO};
 use report::{Printed, report};
 

@@ -1,4 +1,6 @@
 // The functions that a firmware, or a test in C or Rust, calls: numbers, lent words and lent bytes, and one answer convention.
+#![tactic(auto)]
+
 ghost use Rattle.std.specs.Prelude.{◌≡◌, length};
 ghost use Rattle.law.specs.Pattern.{question, pair_word};
 ghost use Rattle.law.specs.Table.{checked};
@@ -29,7 +31,7 @@ use verdict::{Measured, Verdict};
 // Every answer: `refusal` is 0 and `value` the answer's value, or `refusal` is the number that documents 01 and 02 give
 // the refusal and `value` the row or the place that goes with it, 0 where there is none.
 #[repr(C)]
-#[derive(Drop)]
+#[derive(Clone, Copy)]
 pub struct Answer {
     pub refusal: u64,
     pub value: u64,
@@ -38,7 +40,7 @@ pub struct Answer {
 // The answer of a replay, which has two values: where `refusal` is 0, `value` is the ticks done and `used` the numbers used; otherwise `value` is
 // the place that goes with the refusal and `used` is 0.
 #[repr(C)]
-#[derive(Drop)]
+#[derive(Clone, Copy)]
 pub struct ReplayAnswer {
     pub refusal: u64,
     pub value: u64,

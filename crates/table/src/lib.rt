@@ -1,4 +1,6 @@
 // A task table: a lent run of 32-bit words, seven to a row, and its checks in their order.
+#![tactic(auto)]
+
 ghost use Rattle.std.specs.Prelude.{◌≡◌, [], ◌∷◌, ◌++◌, ◌+◌, ◌*◌, ◌/◌, ◌<◌, ◌≤◌, length, get_or, take, drop};
 ghost use Rattle.law.specs.Refusal.{refused};
 ghost use Rattle.law.specs.Table.{task_at, table_of, repeated, RowNumber, fault_of, rows_checked, checked};
@@ -8,7 +10,7 @@ ghost use Rattle.table.specs.Said.{task_said, shown};
 use refusal::{Refusal, is_within};
 
 // A row, by its words.
-#[derive(Drop)]
+#[derive(Clone, Copy)]
 pub struct Task {
     pub id: u64,
     pub c: u64,
@@ -20,7 +22,7 @@ pub struct Task {
 }
 
 // The number of rows of a well_formed table, or why it is none.
-#[derive(Drop)]
+#[derive(Clone, Copy)]
 pub enum Checked {
     Rows(usize),
     Refused(Refusal),

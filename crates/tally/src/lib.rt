@@ -1,4 +1,6 @@
 // One row's tally: its window with the number of its met marks, its counts, and the settling routine that amends them.
+#![tactic(auto)]
+
 ghost use Rattle.std.specs.Prelude.{◌≡◌, ◌-◌, ◌<◌, ◌≤◌, ◌^◌, eqb, ltb};
 ghost use Rattle.law.specs.Sums.{bit, both};
 ghost use Rattle.law.specs.Pattern.{InRange};
@@ -7,7 +9,7 @@ ghost use Rattle.tally.specs.Said.{tally_said, Countable};
 
 // The window, newest mark in bit 0; the counts: released, mandatory met and missed, optional met and missed, broken windows; and the number of
 // met marks that the window holds.
-#[derive(Drop)]
+#[derive(Clone, Copy)]
 pub struct Tally {
     pub window: u64,
     pub released: u64,

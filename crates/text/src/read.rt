@@ -11,14 +11,14 @@ use refusal::Refusal;
 use table::{Checked, WIDTH, check, lay};
 
 // Where a run of lines ends: the place after them; or the place of a fault.
-#[derive(Drop)]
+#[derive(Clone, Copy)]
 pub(crate) enum Rest {
     Next(usize),
     Broken(usize),
 }
 
 // A text that is read: the number of its rows; or why it is none.
-#[derive(Drop)]
+#[derive(Clone, Copy)]
 pub enum Reading {
     Rows(usize),
     Refused(Refusal),

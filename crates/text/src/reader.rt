@@ -7,7 +7,7 @@ ghost use Rattle.line.specs.Said.{said};
 use line::read::{Value, due_at};
 
 // The lent text and the place to read from.
-#[derive(Drop)]
+#[derive(Clone, Copy)]
 pub(crate) struct Reader<'a> {
     pub text: &'a [u8],
     pub at: usize,

@@ -10,7 +10,7 @@ use refusal::Refusal;
 use table::{Checked, WIDTH, check};
 
 // The length of the text written, or why none was.
-#[derive(Drop)]
+#[derive(Clone, Copy)]
 pub enum Written {
     Length(usize),
     Refused(Refusal),

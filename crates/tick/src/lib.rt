@@ -1,4 +1,6 @@
 // One tick over all rows of a state's words: release, choose, work and settle.
+#![tactic(auto)]
+
 ghost use Rattle.std.specs.Prelude.{◌≡◌, ◌+◌, ◌≤◌, ◌<◌, eqb, ltb, length, get_or};
 ghost use Rattle.law.specs.Sums.{bit, both, pick};
 ghost use Rattle.law.specs.Table.{word_of};

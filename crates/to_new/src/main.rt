@@ -1,4 +1,6 @@
 // The program that carries a task text over: standard input to standard output, a refusal to standard error. What is written is `carry`'s.
+#![tactic(auto)]
+
 use carry::to_new;
 use libc::STDIN_FILENO;
 use outcome::tell;

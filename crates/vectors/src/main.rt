@@ -1,5 +1,7 @@
 // The stored cases: a line of standard input puts one question to a public function, and a line of standard output answers it.
 // A line is the operation's number and the numbers that it takes; the answer repeats the operation's number.
+#![tactic(auto)]
+
 mod ask;
 mod numbers;
 mod run;

@@ -1,5 +1,7 @@
 // The verdict: whether every mandatory job of a table can meet its deadline, by the room that rows above leave each row and the first tick at which its
 // load fits.
+#![tactic(auto)]
+
 ghost use Rattle.std.specs.Prelude.{◌++◌, ◌≡◌, ◌≤◌, ◌<◌, length, take, drop};
 ghost use Rattle.law.specs.Pattern.{InRange, count as count_law, red_count};
 ghost use Rattle.law.specs.Table.{table_of, count_of, Ranged, WellFormed};
@@ -13,21 +15,21 @@ use refusal::Refusal;
 use table::{Checked, Task, WIDTH, check, lay, task_at};
 
 // The verdict on a table: admitted, with the number of rows, or why not.
-#[derive(Drop)]
+#[derive(Clone, Copy)]
 pub enum Verdict {
     Admitted(usize),
     Refused(Refusal),
 }
 
 // The rooms of a table: written for so many rows, or why not.
-#[derive(Drop)]
+#[derive(Clone, Copy)]
 pub enum Measured {
     Rows(usize),
     Refused(Refusal),
 }
 
 // What the search of a row finds.
-#[derive(Drop)]
+#[derive(Clone, Copy)]
 enum Fit {
     At(u64),
     Never,
@@ -35,14 +37,14 @@ enum Fit {
 
 // What a row, or all rows above another, bring by a tick, and the next tick, from that one on, at which they release; of the rows above, the other's D at
 // the latest.
-#[derive(Drop)]
+#[derive(Clone, Copy)]
 struct Standing {
     pub brought: u64,
     pub until: u64,
 }
 
 // The rows tried: the first that doesn't fit, or their number where all do; and the response times of those before it.
-#[derive(Drop)]
+#[derive(Clone, Copy)]
 struct Responses {
     pub misfit: usize,
     pub times: [u32; 32],
