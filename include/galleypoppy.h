@@ -1,7 +1,7 @@
 /*
  * Galleypoppy for firmware: patterns, verdict, dispatcher, task text.
  *
- * The functions of `crates/stand_c`, built into `target/staticlib/libstand_c.a` by `rt staticlib stand_c` for x86-64 Linux (the
+ * The functions of `crates/stand_c`, built into `crates/stand_c/out/libstand_c.a` by `rt lib` there, for x86-64 Linux (the
  * System V calling convention, a 64-bit size_t). Each of them is proved to give the answer that document 01 names (spare: document 02,
  * 1/14; the stored number of met marks: 2/14; the two patterns: 3/14; old texts carried over and back: 4/14; a replay with measured
  * job lengths: 5/14; the room of a row: 7/14), on every input, provided that the caller keeps to "What a caller owes" below and the

@@ -1,6 +1,6 @@
 //! Links the archive of the proved functions, `libstand_c.a`.
 //!
-//! It stands where `rt staticlib stand_c` leaves it, in this repository's `target/staticlib`, or in the folder that `STAND_C_DIR`
+//! It stands where `rt lib` in crates/stand_c leaves it, in `crates/stand_c/out`, or in the folder that `STAND_C_DIR`
 //! names.
 
 use std::env;
@@ -24,5 +24,5 @@ fn main() {
 
 fn own_folder() -> PathBuf {
     let package = env::var_os("CARGO_MANIFEST_DIR").unwrap_or_default();
-    PathBuf::from(package).join("../target/staticlib")
+    PathBuf::from(package).join("../crates/stand_c/out")
 }

@@ -1,7 +1,7 @@
 //! Links the archive of the first program, `libstand_c.a`.
 //!
-//! It stands where the first program's build leaves it, two folders up from
-//! this package, or in the folder that `STAND_C_DIR` names.
+//! It stands where the first program's build leaves it, in its crate's
+//! folder, or in the folder that `STAND_C_DIR` names.
 
 use std::env;
 use std::fs;
@@ -27,5 +27,5 @@ fn main() {
 
 fn own_folder() -> PathBuf {
     let package = env::var_os("CARGO_MANIFEST_DIR").unwrap_or_default();
-    PathBuf::from(package).join("../../target/staticlib")
+    PathBuf::from(package).join("../../crates/stand_c/out")
 }

@@ -1,4 +1,4 @@
-// The dispatcher for callers: a fresh state, whether words are a well_formed state, one tick, a run, a row's counts and its met marks.
+// The dispatcher for callers: a fresh state, whether words are a well-formed state, one tick, a run, a row's counts and its met marks.
 #![tactic(auto)]
 
 pub mod counts;

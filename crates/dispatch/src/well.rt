@@ -1,4 +1,4 @@
-// Whether words that a caller offers are a well_formed state: the tests of document 01 and of document 02, 2/14 and 3/14, and no other.
+// Whether words that a caller offers are a well-formed state: the tests of document 01 and of document 02, 2/14 and 3/14, and no other.
 ghost use Rattle.std.specs.Prelude.{◌≡◌, ◌≤◌, ◌<◌, ◌+◌, ◌*◌, ◌^◌, eqb, ltb, drop};
 ghost use Rattle.law.specs.Sums.{every};
 ghost use Rattle.law.specs.Pattern.{InRange};
@@ -159,7 +159,7 @@ fn is_clear(words: &[u64], from: usize) -> bool
     any == 0
 }
 
-// Whether words are a well_formed state: their number, the table, the clock, each row, and nothing after the last row.
+// Whether words are a well-formed state: their number, the table, the clock, each row, and nothing after the last row.
 pub fn is_well(words: &[u64]) -> bool
     ensures { result ≡ saved_well words.now }
 {

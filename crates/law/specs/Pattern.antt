@@ -14,7 +14,7 @@ unfoldable pub mandatory : ℕ → ℕ → ℕ → Bool
 mandatory m k a = eqb a (ceil (a * m) k * k / m)
 
 -- how many of the first q jobs are mandatory, by the formula: "the first q jobs hold exactly ceil(q x m / k) mandatory ones". That they do is proved
--- (`IsAmong-first`, proofs/Pattern)
+-- (`among_first`, proofs/Pattern)
 unfoldable pub count : ℕ → ℕ → ℕ → ℕ
 count m k q = ceil (q * m) k
 

@@ -1,1 +1,2 @@
 pub mod Tellable
+pub mod Tells

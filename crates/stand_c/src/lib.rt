@@ -213,7 +213,7 @@ pub extern "C" fn gp_fresh(table: &[u32], room: &mut [u64]) -> Answer
     }
 }
 
-// Whether 643 words are a well_formed state.
+// Whether 643 words are a well-formed state.
 #[unsafe(no_mangle)]
 pub extern "C" fn gp_well(state: &[u64]) -> Answer
     ensures { result ≡ numbered (saved_answer state.now) }

@@ -21,7 +21,7 @@ pub struct Task {
     pub p: u64,
 }
 
-// The number of rows of a well_formed table, or why it is none.
+// The number of rows of a well-formed table, or why it is none.
 #[derive(Clone, Copy)]
 pub enum Checked {
     Rows(usize),

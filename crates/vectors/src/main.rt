@@ -8,58 +8,73 @@ mod run;
 mod show;
 mod texts;
 
-ghost use Rattle.std.specs.Prelude.{◌<◌, length};
+ghost use Rattle.std.specs.Prelude.{◌<◌, ◌≡◌, length, IfOk};
 
-use libc::{STDIN_FILENO, STDOUT_FILENO};
+use intake::{StandardInput, read_full};
 use numbers::{line_end, number_at, numbers_of};
+use std::io;
+use std::io::{Read, Write};
 
 // One case. A number that is no operation's is answered by itself alone.
-fn answer(case: &[u64]) {
+fn answer<W: Write>(out: &mut W, case: &[u64]) -> io::Result<()> {
     let operation = number_at(case, 0);
-    io::print_decimal(STDOUT_FILENO, operation);
+    write!(out, "{operation}")?;
     match operation {
-        1 => ask::job(case),
-        2 => ask::word(case),
-        3 => ask::check(case),
-        4 => ask::judge(case),
-        5 => run::fresh(case),
-        6 => run::damaged(case),
-        7 => run::counts(case),
-        8 => texts::read(case),
-        9 => texts::write(case),
-        10 => texts::print(case),
-        11 => run::held(case),
-        12 => texts::to_new(case),
-        13 => texts::to_old(case),
-        14 => run::replay(case),
-        15 => ask::rooms(case),
+        1 => ask::job(out, case)?,
+        2 => ask::word(out, case)?,
+        3 => ask::check(out, case)?,
+        4 => ask::judge(out, case)?,
+        5 => run::fresh(out, case)?,
+        6 => run::damaged(out, case)?,
+        7 => run::counts(out, case)?,
+        8 => texts::read(out, case)?,
+        9 => texts::write(out, case)?,
+        10 => texts::print(out, case)?,
+        11 => run::held(out, case)?,
+        12 => texts::to_new(out, case)?,
+        13 => texts::to_old(out, case)?,
+        14 => run::replay(out, case)?,
+        15 => ask::rooms(out, case)?,
         _ => {}
     }
-    io::write_all(STDOUT_FILENO, b"\n");
+    out.write_all(b"\n")
 }
 
 // The case that begins at a place of the text: where the next one begins.
-fn answer_at(text: &[u8], from: usize) -> usize
+fn answer_at<W: Write>(out: &mut W, text: &[u8], from: usize) -> io::Result<usize>
     requires { from < length text.now }
-    ensures { from < result }
+    ensures { IfOk result (λ next. from < next) }
 {
     let mut case = [0u64; 2048];
     let end = line_end(text, from);
     let n = numbers_of(&text[from..end], &mut case);
-    answer(&case[..n]);
-    end
+    answer(out, &case[..n])?;
+    Ok(end)
 }
 
 // Every case of the text.
-fn answer_all(text: &[u8]) {
+fn answer_all<W: Write>(out: &mut W, text: &[u8]) -> io::Result<()> {
     let mut at = 0;
     while at < text.len() {
-        at = answer_at(text, at);
+        at = answer_at(out, text, at)?;
     }
+    Ok(())
 }
 
-fn main() {
-    let mut text = [0u8; 589824];
-    let n = io::read_full(STDIN_FILENO, &mut text);
-    answer_all(&text[..n]);
+// A run of bytes for an input.
+fn large_room() -> [u8; 589824]
+    ensures { 589824 ≡ length result }
+{
+    [0; 589824]
+}
+
+// Every case of an input that the room takes.
+fn answer_input<R: Read, W: Write>(input: &mut R, out: &mut W, room: &mut [u8]) -> io::Result<()> {
+    let n = read_full(input, room)?;
+    answer_all(out, &room[..n])
+}
+
+fn main(rt: HostRuntime) -> io::Result<()> {
+    let mut room = large_room();
+    answer_input(&mut StandardInput::new(rt.stdin()), &mut rt.stdout(), &mut room)
 }

@@ -1,9 +1,7 @@
 // Lines of decimal numbers. Every byte string is read: a byte that is no digit ends a number, LF ends the line, a number of more than
 // 64 bits wraps, and numbers past the end of their room are left out.
 ghost use Rattle.std.specs.Prelude.{◌<◌, ◌≤◌, length};
-ghost use Rattle.io.specs.Counts.{IsPrefixLen};
-
-use std::num::wrapping_add_u64;
+ghost use Rattle.std.specs.Counts.{IsPrefixLen};
 
 // Where the line that begins at a place ends: after its LF, or with the text.
 pub(crate) fn line_end(text: &[u8], from: usize) -> usize
@@ -31,11 +29,7 @@ fn digit(byte: u8) -> u64 {
 
 // A number with one digit more.
 fn with_digit(number: u64, digit: u64) -> u64 {
-    let two = wrapping_add_u64(number, number);
-    let four = wrapping_add_u64(two, two);
-    let five = wrapping_add_u64(four, number);
-    let ten = wrapping_add_u64(five, five);
-    wrapping_add_u64(ten, digit)
+    number.wrapping_mul(10).wrapping_add(digit)
 }
 
 // A number laid at a place of a room, where it has that place: the next place.

@@ -1,49 +1,49 @@
 // Answers on standard output, each number after a space: 0 and a value, or a refusal's number and its row or place.
-ghost use Rattle.io.specs.Counts.{IsPrefixLen};
+ghost use Rattle.std.specs.Counts.{IsPrefixLen};
 
 use crate::numbers::held;
 use dispatch::run::Ran;
-use libc::STDOUT_FILENO;
 use refusal::Refusal;
 use replay::Replayed;
+use std::io;
+use std::io::Write;
 
 // What a room holds before a call.
 pub(crate) const BEFORE: u32 = 4000000007;
 
 pub(crate) const BYTE_BEFORE: u8 = 255;
 
-pub(crate) fn number(x: u64) {
-    io::write_all(STDOUT_FILENO, b" ");
-    io::print_decimal(STDOUT_FILENO, x);
+pub(crate) fn number<W: Write>(out: &mut W, x: u64) -> io::Result<()> {
+    write!(out, " {x}")
 }
 
-pub(crate) fn accepted(value: u64) {
-    number(0);
-    number(value);
+pub(crate) fn accepted<W: Write>(out: &mut W, value: u64) -> io::Result<()> {
+    number(out, 0)?;
+    number(out, value)
 }
 
-pub(crate) fn refused(r: Refusal) {
-    number(refusal::number(r));
-    number(refusal::also(r));
+pub(crate) fn refused<W: Write>(out: &mut W, r: Refusal) -> io::Result<()> {
+    number(out, refusal::number(r))?;
+    number(out, refusal::also(r))
 }
 
-pub(crate) fn ran(r: Ran) {
+pub(crate) fn ran<W: Write>(out: &mut W, r: Ran) -> io::Result<()> {
     match r {
-        Ran::Done => accepted(0),
-        Ran::Refused(refusal) => refused(refusal),
+        Ran::Done => accepted(out, 0),
+        Ran::Refused(refusal) => refused(out, refusal),
     }
 }
 
 // A replay's answer has a second value: the numbers used, 0 where it is refused.
-pub(crate) fn replayed(r: Replayed) {
+pub(crate) fn replayed<W: Write>(out: &mut W, r: Replayed) -> io::Result<()> {
     match r {
         Replayed::Done(progress) => {
-            accepted(progress.ticks);
-            number(progress.used);
+            accepted(out, progress.ticks)?;
+            number(out, progress.used)
         }
         Replayed::Refused(refusal) => {
-            refused(refusal);
-            number(0);
+            refused(out, refusal)?;
+            number(out, 0)
         }
     }
 }
@@ -53,21 +53,19 @@ fn wide(word: u32) -> u64 {
 }
 
 // Every word of a room.
-pub(crate) fn words(room: &[u32]) {
-    let mut i = 0;
-    while i < room.len() {
-        number(wide(room[i]));
-        i += 1;
+pub(crate) fn words<W: Write>(out: &mut W, room: &[u32]) -> io::Result<()> {
+    for word in room {
+        number(out, wide(*word))?;
     }
+    Ok(())
 }
 
 // The same of wide words.
-pub(crate) fn wide_words(room: &[u64]) {
-    let mut i = 0;
-    while i < room.len() {
-        number(room[i]);
-        i += 1;
+pub(crate) fn wide_words<W: Write>(out: &mut W, room: &[u64]) -> io::Result<()> {
+    for word in room {
+        number(out, *word)?;
     }
+    Ok(())
 }
 
 fn wide_byte(byte: u8) -> u64 {
@@ -75,12 +73,11 @@ fn wide_byte(byte: u8) -> u64 {
 }
 
 // The same of bytes.
-pub(crate) fn bytes(room: &[u8]) {
-    let mut i = 0;
-    while i < room.len() {
-        number(wide_byte(room[i]));
-        i += 1;
+pub(crate) fn bytes<W: Write>(out: &mut W, room: &[u8]) -> io::Result<()> {
+    for byte in room {
+        number(out, wide_byte(*byte))?;
     }
+    Ok(())
 }
 
 // One number that every word of a room bears on.
@@ -110,8 +107,8 @@ fn state_length(state: &[u64]) -> usize
 }
 
 // A room for a state: its rows word by word, and all of it by its digest.
-pub(crate) fn state(room: &[u64]) {
+pub(crate) fn state<W: Write>(out: &mut W, room: &[u64]) -> io::Result<()> {
     let n = state_length(room);
-    wide_words(&room[..n]);
-    number(digest(room));
+    wide_words(out, &room[..n])?;
+    number(out, digest(room))
 }

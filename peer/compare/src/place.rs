@@ -14,7 +14,7 @@ fn repository() -> PathBuf {
 /// A program of the first program, where its build leaves it. That it is not there
 /// is an error, so that no run of it is passed over.
 fn program(name: &str) -> Result<PathBuf> {
-    let path = repository().join("target/bin").join(name);
+    let path = repository().join("crates").join(name).join("out").join(name);
     fs::canonicalize(&path).map_err(|error| named(&path, error))
 }
 

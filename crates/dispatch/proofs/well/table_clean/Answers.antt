@@ -1,0 +1,72 @@
+-- `dispatch::well::table_clean` meets its contract: no row passed has a fault.
+use mathlib.Core.Bool.{Bool, true, false, not}
+use mathlib.Core.List.{List}
+use mathlib.Core.Path.{◌≡◌, sym, ap, ◌∙◌}
+use Prim.Native.Nat.{ℕ, ◌-◌}
+use native.Mathlib.Omega.{arith}
+use lib.Dec.{eqb}
+use borrow.Author.Rules.{rules}
+use borrow.Author.Tests.{eq-eqb, ne_eqb}
+use Rattle.law.specs.Sums.{first}
+use Rattle.law.specs.Table.{Task, row, fault_of, row_fault, faulty}
+use Rattle.law.specs.State.{state_of, tasks_of}
+use Rattle.law.proofs.First.{Searched, searched_start, searched_hit, searched_next, searched_end}
+use Rattle.law.proofs.Ticks.{tasks_length}
+use Rattle.rows.specs.Said.{Sized}
+use Rattle.rows.proofs.Words.{task_read}
+use Rattle.dispatch.proofs.well.table_clean.Invariants.{fault}
+use Rattle.dispatch.proofs.well.table_clean.Goals.{After-row_fault}
+use Rattle.dispatch.proofs.well.table_clean.Goals as goal
+
+-- the search of the loop is the law's
+faulty-is : {words : List ℕ} {rows : ℕ} → Sized words rows → (i : ℕ) → first (fault words) rows ≡ i → faulty (tasks_of (state_of words).rows) ≡ i
+unfolding faulty fault
+faulty-is {words} s i e = ap (first (fault words)) (tasks_length (state_of words).rows ∙ sym s.total) ∙ e
+
+pub loop-i-init : goal.loop-i-init
+loop-i-init c = (searched_start _ _, c.requires)
+
+pub task_of-requires : goal.task_of-requires
+task_of-requires c = let l = c.loop-i.invariant in (l.1.long, omega (arith, l.1.few))
+
+pub is_repeated-requires : goal.is_repeated-requires
+is_repeated-requires c = (c.loop-i.invariant.1, c.loop-i-test.true)
+
+abbrev Read : Type 0
+Read = After-row_fault
+
+-- in a turn: what was read is the row's fault
+told : (c : Read) → c.row_fault.result ≡ row_fault (tasks_of (state_of c.args.words.now).rows) c.loop-i.i
+told c =
+    let l = c.loop-i in
+    let tasks = tasks_of (state_of c.args.words.now).rows in
+    c.row_fault.ensures
+    ∙ ap (λ (z : Task). fault_of z c.is_repeated.result) (c.task_of.ensures ∙ task_read l.invariant.1 l.i c.loop-i-test.true)
+    ∙ ap (fault_of (row tasks l.i)) c.is_repeated.ensures
+
+clean : (c : Read) (b : Bool) → eqb c.row_fault.result 0 ≡ b → fault c.args.words.now c.loop-i.i ≡ not b
+unfolding fault
+clean c b e = ap (λ (z : ℕ). not (eqb z 0)) (sym (told c)) ∙ ap not e
+
+pub returns-then-row_fault-ne0 : goal.returns-then-row_fault-ne0
+returns-then-row_fault-ne0 c =
+    let l = c.loop-i in
+    let t = c.loop-i-test.true in
+    let found = faulty-is l.invariant.1 _ (searched_hit l.invariant.0 t (clean (goal.at.returns-then-row_fault-ne0 c).After-row_fault false (ne_eqb _ 0 c.if-row_fault-ne0.true))) in
+    sym (ne_eqb _ c.args.rows (λ e. omega (arith, t, found, e)))
+
+pub overflow_add-i : goal.overflow_add-i
+overflow_add-i c = let l = c.loop-i.invariant in omega (arith, l.1.few)
+
+pub loop-i-smaller : goal.loop-i-smaller
+loop-i-smaller c = omega arith
+
+pub loop-i-preserved : goal.loop-i-preserved
+loop-i-preserved c =
+    let l = c.loop-i.invariant in
+    (searched_next l.0 c.loop-i-test.true (clean (goal.at.loop-i-preserved c).After-row_fault true (eq-eqb _ 0 c.if-row_fault-ne0.false)), l.1)
+
+pub returns : goal.returns
+returns c =
+    let l = c.loop-i.invariant in
+    sym (eq-eqb _ _ (faulty-is l.1 _ (searched_end l.0 c.loop-i-test.false)))

@@ -1,0 +1,75 @@
+-- `replay::replay_words` meets its contract: what may not run is handed back; the replay is made on a copy, which is handed back if it is not refused.
+use mathlib.Core.List.{List, []}
+use mathlib.Core.Path.{◌≡◌, sym, ap, ◌∙◌, subst}
+use Prim.Native.Nat.{ℕ, ◌+◌, ◌≤◌}
+use native.Mathlib.Omega.{arith}
+use lib.ListN.{length}
+use borrow.Author.Rules.{rules}
+use Rattle.law.specs.Refusal.{accepted}
+use Rattle.law.specs.Tick.{clock_end}
+use Rattle.law.specs.State.{state_of, laid, run_answer}
+use Rattle.law.specs.Replay.{replayed, replay_told}
+use Rattle.law.proofs.RunAnswers.{run_well_formed, run_early}
+use Rattle.law.proofs.Replay.{replay_refused, replay_told_lem, replay_bad, replay_done}
+use Rattle.rows.specs.Said.{Held, Fetched}
+use Rattle.rows.proofs.Words.{words_long}
+use Rattle.tick.proofs.Chain.{time_word}
+use Rattle.dispatch.specs.Shown.{ran_shown}
+use Rattle.dispatch.proofs.Saved.{saved_held}
+use Rattle.replay.specs.Shown.{replayed_shown}
+use Rattle.replay.proofs.replay_words.Goals.{After-replay_ticks, In-Done}
+use Rattle.replay.proofs.replay_words.Goals as goal
+
+-- the words are a state, and the clock allows the ticks
+allowed : (c : In-Done) → run_answer c.args.words.now c.args.n ≡ accepted []
+allowed c = sym c.may_run.ensures ∙ ap ran_shown c.in-Done.is
+
+held : (c : In-Done) → Held 0 c.args.words.now
+held c = saved_held _ (run_well_formed _ c.args.n [] (allowed c))
+
+-- what the replay on the copy says
+told : (c : After-replay_ticks) → replayed_shown c.replay_ticks.result
+    ≡ replay_told c.args.log.now c.args.n (state_of c.args.words.now)
+told c =
+    let s = c.args in
+    c.replay_ticks.ensures.answer ∙ ap (λ (z : List ℕ). replay_told s.log.now s.n (state_of z)) c.overwrite.ensures
+
+pub returns-in-Refused : goal.returns-in-Refused
+returns-in-Refused c =
+    let s = c.args in
+    let e = replay_refused s.words.now s.n s.log.now _ _ (sym c.may_run.ensures ∙ ap ran_shown c.in-Refused.is) in
+    record { answer = sym e.0; words = sym e.1 }
+
+pub fetch-patterns-requires : goal.fetch-patterns-requires
+fetch-patterns-requires c = held (goal.at.fetch-patterns-requires c).In-Done
+
+pub overwrite-requires : goal.overwrite-requires
+overwrite-requires c = sym (words_long (held (goal.at.overwrite-requires c).In-Done).laid)
+
+pub replay_ticks-requires : goal.replay_ticks-requires
+replay_ticks-requires c =
+    let w = c.args.words.now in
+    let o = sym c.overwrite.ensures in (
+      subst (Held 0) o (held (goal.at.replay_ticks-requires c).In-Done),
+      subst (λ (z : List ℕ). (state_of z).time + c.args.n ≤ clock_end) o (omega (arith, time_word w, run_early w c.args.n [] (allowed (goal.at.replay_ticks-requires c).In-Done))),
+      subst (λ (z : List ℕ). Fetched (state_of z).rows c.fetch-patterns.result) o c.fetch-patterns.ensures.0,
+    )
+
+pub overwrite-requires-in-Done-replay_ticks : goal.overwrite-requires-in-Done-replay_ticks
+overwrite-requires-in-Done-replay_ticks c =
+    let l = words_long (held (goal.at.overwrite-requires-in-Done-replay_ticks c).In-Done).laid in
+    l ∙ sym (c.replay_ticks.auto.words ∙ ap length c.overwrite.ensures ∙ l)
+
+pub returns-in-Refused-replay_ticks : goal.returns-in-Refused-replay_ticks
+returns-in-Refused-replay_ticks c =
+    let s = c.args in
+    let e = sym (told (goal.at.returns-in-Refused-replay_ticks c).After-replay_ticks) ∙ ap replayed_shown c.in-Refused-replay_ticks.is in
+    record { answer = sym (replay_told_lem s.words.now s.n s.log.now (allowed (goal.at.returns-in-Refused-replay_ticks c).In-Done) ∙ e); words = sym (replay_bad s.words.now s.n s.log.now (allowed (goal.at.returns-in-Refused-replay_ticks c).In-Done) _ _ e) }
+
+pub returns-in-Done-replay_ticks : goal.returns-in-Done-replay_ticks
+returns-in-Done-replay_ticks c =
+    let s = c.args in
+    let shows = ap replayed_shown c.in-Done-replay_ticks.is in
+    let e = sym (told (goal.at.returns-in-Done-replay_ticks c).After-replay_ticks) ∙ shows in record { answer = sym (replay_told_lem s.words.now s.n s.log.now (allowed (goal.at.returns-in-Done-replay_ticks c).In-Done) ∙ e); words = c.overwrite-in-Done-replay_ticks.ensures ∙ c.replay_ticks.ensures.words.is _ shows
+          ∙ ap (λ (z : List ℕ). laid (replayed s.log.now s.n (state_of z)).state) c.overwrite.ensures
+          ∙ sym (replay_done s.words.now s.n s.log.now (allowed (goal.at.returns-in-Done-replay_ticks c).In-Done) _ e) }

@@ -1,0 +1,59 @@
+-- `replay::step::release_next` meets its contract: a row that waits stays; else its number is in range and it is released with it, or it is not.
+use mathlib.Core.Bool.{true, false}
+use mathlib.Core.Path.{◌≡◌, refl, sym, ap, ◌∙◌}
+use Prim.Native.Nat.{ℕ}
+use native.Mathlib.Omega.{arith}
+use lib.ListN.{get_or}
+use borrow.Author.Tests.{not-true, not-false}
+use Rattle.law.specs.Refusal.{within}
+use Rattle.law.specs.Tick.{no_row, core_at}
+use Rattle.law.specs.State.{state_of}
+use Rattle.rows.proofs.Cases.{waits_on}
+use Rattle.rows.proofs.Words.{words_long, row_kept}
+use Rattle.replay.proofs.Read.{wait_read, c_read, fits_waiting, unfit_due, due_bit, waiting_bit}
+use borrow.Author.Rules.{rules}
+use Rattle.replay.proofs.step.release_next.Goals.{After-is_within, After-word, Else-word-ne0}
+use Rattle.replay.proofs.step.release_next.Goals as goal
+
+-- the row's wait, as it was read
+wait : (c : After-word) → c.word.result ≡ (core_at (state_of c.args.words.now).rows c.args.i).wait
+wait c = wait_read _ _ c.requires.1 _ c.word.ensures
+
+due : (c : Else-word-ne0) → (core_at (state_of c.args.words.now).rows c.args.i).wait ≡ 0
+due c = sym (wait_read _ _ c.requires.1 _ c.word.ensures) ∙ c.if-word-ne0.false
+
+ranged : (c : After-is_within) → c.is_within.result
+    ≡ within 1 (core_at (state_of c.args.words.now).rows c.args.i).task.c (get_or c.args.log.now c.args.next 0)
+ranged c =
+    c.is_within.ensures
+    ∙ ap (λ (z : ℕ). within 1 z (get_or c.args.log.now c.args.next 0)) (c_read _ _ c.requires.1 _ c.word-2.ensures)
+
+pub word-requires : goal.word-requires
+word-requires c = let p = c.requires in (words_long p.0, omega (arith, p.0.few), omega arith)
+
+pub returns-then-word-ne0 : goal.returns-then-word-ne0
+returns-then-word-ne0 c =
+    let w = c.args.words.now in
+    let r = get_or (state_of w).rows c.args.i no_row in
+    let waits : r.core.wait ≡ 0 → ⊥ = λ e. c.if-word-ne0.true (wait (goal.at.returns-then-word-ne0 c).After-word ∙ e) in record { bad = sym (fits_waiting c.args.log.now c.args.next r.core waits); next = omega (arith, waiting_bit r.core waits); words = row_kept c.requires.0 c.args.i _ (sym (waits_on (get_or c.args.log.now c.args.next 0) r waits)) }
+
+pub bounds-log-next : goal.bounds-log-next
+bounds-log-next c =
+    omega (arith, c.requires.4, due_bit (core_at (state_of c.args.words.now).rows c.args.i) (due (goal.at.bounds-log-next c).Else-word-ne0))
+
+pub word-requires-2 : goal.word-requires-2
+word-requires-2 c = let p = c.requires in (words_long p.0, omega (arith, p.0.few), omega arith)
+
+pub returns-then-not-is_within : goal.returns-then-not-is_within
+returns-then-not-is_within c =
+    let core = core_at (state_of c.args.words.now).rows c.args.i in
+    record { bad = sym (unfit_due c.args.log.now c.args.next core (due (goal.at.returns-then-not-is_within c).Else-word-ne0) false (sym (ranged (goal.at.returns-then-not-is_within c).After-is_within) ∙ c.if-not-is_within.true)); next = refl; words = refl }
+
+pub release_row-requires : goal.release_row-requires
+release_row-requires c =
+    (c.requires.0, c.requires.1, c.requires.2, due (goal.at.release_row-requires c).Else-word-ne0, c.requires.3)
+
+pub returns : goal.returns
+returns c =
+    let core = core_at (state_of c.args.words.now).rows c.args.i in
+    let now = due (goal.at.returns c).Else-word-ne0 in record { bad = sym (unfit_due c.args.log.now c.args.next core now true (sym (ranged (goal.at.returns c).After-is_within) ∙ c.if-not-is_within.false)); next = omega (arith, due_bit core now); words = c.release_row.ensures }

@@ -1,0 +1,42 @@
+-- `table::check` meets its contract: the three tests of the length are those of `checked`, in its order.
+use mathlib.Core.Bool.{true, false}
+use mathlib.Core.Path.{◌≡◌, sym, ◌∙◌}
+use Prim.Native.Nat.{ℕ, ◌/◌, ◌%◌}
+use native.Mathlib.Omega.{arith}
+use lib.Dec.{eqb, ltb}
+use lib.ListN.{length}
+use borrow.Author.Rules.{rules}
+use borrow.Author.Tests.{eq-eqb, ne_eqb, lt-ltb, le-ltb, le-leb, lt-leb}
+use Rattle.law.specs.Table.{checked}
+use Rattle.table.proofs.check.Goals.{Else-n-eq0, Else-n-ne0}
+use Rattle.table.proofs.check.Goals as goal
+
+positive : (n : ℕ) → (n ≡ 0 → ⊥) → ltb 0 n ≡ true
+positive n h = lt-ltb 0 n (omega arith)
+
+nought : (n : ℕ) → n ≡ 0 → ltb 0 n ≡ false
+nought n e = le-ltb 0 n (omega arith)
+
+whole : (c : Else-n-ne0) → eqb (length c.args.words.now % 7) 0 ≡ true
+whole c = eq-eqb _ 0 c.if-n-ne0.false
+
+some : (c : Else-n-eq0) → ltb 0 (length c.args.words.now / 7) ≡ true
+some c = positive _ c.if-n-eq0.false
+
+pub returns-then-n-ne0 : goal.returns-then-n-ne0
+unfolding checked
+returns-then-n-ne0 c = sym (simp (ne_eqb _ 0 c.if-n-ne0.true))
+
+pub returns-then-n-eq0 : goal.returns-then-n-eq0
+unfolding checked
+returns-then-n-eq0 c = sym (simp (whole (goal.at.returns-then-n-eq0 c).Else-n-ne0, nought _ c.if-n-eq0.true))
+
+pub returns-then-n-gt32 : goal.returns-then-n-gt32
+unfolding checked
+returns-then-n-gt32 c = sym (simp (whole (goal.at.returns-then-n-gt32 c).Else-n-ne0, some (goal.at.returns-then-n-gt32 c).Else-n-eq0, lt-leb _ 32 c.if-n-gt32.true))
+
+pub returns : goal.returns
+unfolding checked
+returns c =
+    c.check_rows.ensures
+    ∙ sym (simp (whole (goal.at.returns c).Else-n-ne0, some (goal.at.returns c).Else-n-eq0, le-leb _ 32 c.if-n-gt32.false))

@@ -1,0 +1,47 @@
+-- `tick::advance_all` meets its contract: the rows passed are advanced.
+use mathlib.Core.Path.{sym, ap, ◌∙◌, subst}
+use Prim.Native.Nat.{◌-◌}
+use native.Mathlib.Omega.{arith}
+use lib.Dec.{eqb}
+use Rattle.law.specs.Tick.{advance_row, advance_all}
+use Rattle.law.specs.State.{state_of}
+use Rattle.law.specs.Sound.{SoundState, SoundRow}
+use Rattle.rows.proofs.Words.{words_long}
+use Rattle.tick.proofs.Loops.{Mapped, mapped_start, mapped_laid, mapped_rows, mapped_row, mapped_next, mapped_end}
+use Rattle.tick.proofs.advance_all.Goals as goal
+
+pub rows_of-rows-requires : goal.rows_of-rows-requires
+rows_of-rows-requires c = c.requires.laid
+
+pub loop-i-init : goal.loop-i-init
+loop-i-init c = let p = c.requires in (mapped_start _ _ _ p.laid c.rows_of-rows.ensures, p.sound)
+
+pub advance_one-requires : goal.advance_one-requires
+advance_one-requires c =
+    let l = c.loop-i in
+    let m = l.invariant.0 in
+    let s = l.invariant.1 in (
+      mapped_laid m,
+      omega (arith, mapped_rows m, m.total),
+      record {
+        time = _;
+        early = s.time;
+        sound = subst (SoundRow 1 _) (sym (mapped_row m)) (s.rows l.i (omega (arith, m.total)));
+      },
+    )
+
+pub overflow_add-i : goal.overflow_add-i
+overflow_add-i c = let m = c.loop-i.invariant.0 in omega (arith, m.total, m.few)
+
+pub loop-i-smaller : goal.loop-i-smaller
+loop-i-smaller c = omega arith
+
+pub loop-i-preserved : goal.loop-i-preserved
+loop-i-preserved c =
+    let l = c.loop-i in
+    let m = l.invariant.0 in
+    (mapped_next m _ _ c.loop-i-test.true (ap (advance_row (eqb l.i _)) (mapped_row m)) c.advance_one.ensures, l.invariant.1)
+
+pub returns : goal.returns
+unfolding advance_all
+returns c = mapped_end c.loop-i.invariant.0 c.loop-i-test.false

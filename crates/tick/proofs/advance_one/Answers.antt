@@ -1,0 +1,74 @@
+-- `tick::advance_one` meets its contract: a row without a live job waits on, one whose job keeps work and time goes on, and any other is settled.
+use mathlib.Core.Path.{◌≡◌, sym, ap, ◌∙◌, subst}
+use Prim.Native.Nat.{ℕ, ◌-◌, ◌≤◌}
+use native.Mathlib.Omega.{arith}
+use lib.ListN.{get_or, set}
+use Rattle.law.specs.Sums.{bit}
+use Rattle.law.specs.Tick.{Row, no_row, work_after}
+use Rattle.law.specs.State.{row_of, state_of, laid, with_row, words_of}
+use Rattle.law.proofs.Laid.{going}
+use Rattle.rows.proofs.Cases.{waited, is_resting, is_running, rests, goes_on_lem}
+use Rattle.rows.proofs.Words.{words_long, row_read, wait_put, going_put}
+use borrow.Author.Rules.{rules}
+use Rattle.tick.proofs.advance_one.Goals.{After-word-left, After-word-wait, After-word-work, Start}
+use Rattle.tick.proofs.advance_one.Goals as goal
+
+-- the row as it was
+abbrev held : Start → Row
+held s = get_or (state_of s.args.words.now).rows s.args.i no_row
+
+-- the words read are its wait, work and time left
+wait_read : (c : After-word-wait) → c.word-wait.result ≡ (held c.before.before).core.wait
+unfolding row_of
+wait_read c = c.word-wait.ensures ∙ ap (λ (z : Row). z.core.wait) (row_read _ _ c.requires.1)
+
+work-read : (c : After-word-work) → c.word-work.result ≡ (held c.before.before.before).core.work
+unfolding row_of
+work-read c = c.word-work.ensures ∙ ap (λ (z : Row). z.core.work) (row_read _ _ c.requires.1)
+
+left-read : (c : After-word-left) → c.word-left.result ≡ (held c.before.before.before.before.before.before.before).core.left
+unfolding row_of
+left-read c = c.word-left.ensures ∙ ap (λ (z : Row). z.core.left) (row_read _ _ c.requires.1)
+
+pub word-wait-requires : goal.word-wait-requires
+word-wait-requires c = let p = c.requires in (words_long p.0, omega (arith, p.0.few), omega arith)
+
+pub overflow_sub-wait : goal.overflow_sub-wait
+overflow_sub-wait c = subst (λ (z : ℕ). 1 ≤ z) (sym (wait_read c)) c.requires.2.sound.core.wait_low
+
+pub word-work-requires : goal.word-work-requires
+word-work-requires c = let p = c.requires in (words_long p.0, omega (arith, p.0.few), omega arith)
+
+pub put_wait-requires : goal.put_wait-requires
+put_wait-requires c = let p = c.requires in (words_long p.0, omega (arith, p.0.few))
+
+pub returns-then-work-eq0 : goal.returns-then-work-eq0
+unfolding words_of
+returns-then-work-eq0 c =
+    let r = held (goal.at.returns-then-work-eq0 c).Start in
+    c.put_wait.ensures
+    ∙ wait_put c.requires.0 c.args.i _ (waited r) c.requires.1 (ap (λ (z : ℕ). set (words_of r) 7 (z - 1)) (sym (wait_read (goal.at.returns-then-work-eq0 c).After-word-wait)))
+    ∙ ap (λ (z : Row). laid (with_row (state_of c.args.words.now) c.args.i z))
+    (rests c.args.chosen r (is_resting c.requires.2.sound.core (sym (work-read (goal.at.returns-then-work-eq0 c).After-word-work) ∙ c.if-work-eq0.true)))
+
+pub word-left-requires : goal.word-left-requires
+word-left-requires c = let p = c.requires in (words_long p.0, omega (arith, p.0.few), omega arith)
+
+pub overflow_sub-left : goal.overflow_sub-left
+overflow_sub-left c =
+    let q = is_running c.requires.2.sound.core (λ e. c.if-work-eq0.false (work-read (goal.at.overflow_sub-left c).After-word-work ∙ e)) in
+    subst (λ (z : ℕ). 1 ≤ z) (sym (left-read (goal.at.overflow_sub-left c).After-word-left)) q.left_low
+
+pub put_going-requires : goal.put_going-requires
+put_going-requires c = let p = c.requires in (words_long p.0, omega (arith, p.0.few))
+
+pub returns : goal.returns
+returns c =
+    let r = held (goal.at.returns c).Start in
+    let chosen = c.args.chosen in
+    let worked : c.worked-rest.result ≡ work_after chosen r.core = c.worked-rest.ensures ∙ ap (λ (z : ℕ). z - bit chosen) (work-read (goal.at.returns c).After-word-work) in
+    c.put_going.ensures ∙ going_put c.requires.0 c.args.i _ _ _ c.requires.1
+    ∙ ap (λ (z : Row). laid (with_row (state_of c.args.words.now) c.args.i z))
+    (ap (λ (z : ℕ). going r (z - 1) c.worked-rest.result (c.word-left.result - 1)) (wait_read (goal.at.returns c).After-word-wait)
+    ∙ goes_on_lem chosen r (is_running c.requires.2.sound.core (λ e. c.if-work-eq0.false (work-read (goal.at.returns c).After-word-work ∙ e)))
+    (λ e. c.if-rest-eq0.false (worked ∙ e)) (λ e. c.if-left-eq1.false (left-read (goal.at.returns c).After-word-left ∙ e)) _ _ worked (ap (λ (z : ℕ). z - 1) (left-read (goal.at.returns c).After-word-left)))

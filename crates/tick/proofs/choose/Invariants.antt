@@ -1,0 +1,42 @@
+-- `tick::choose` meets its contract: no row passed is urgent, and `optional` is the first live one among them, if any.
+use mathlib.Core.Bool.{Bool, true, false}
+use mathlib.Core.List.{List}
+use mathlib.Core.Path.{◌≡◌, sym, ap, ◌∙◌}
+use Prim.Native.Nat.{ℕ, ◌+◌, ◌-◌, ◌≤◌, ◌<◌}
+use native.Mathlib.Decide.{dec_lt, ℕ_discrete}
+use native.Mathlib.Omega.{arith}
+use lib.Dec.{eqb, ltb}
+use lib.ListN.{length}
+use borrow.Author.Rules.{rules}
+use borrow.Author.Tests.{eq-eqb, ne_eqb, lt-ltb, le-ltb}
+use Rattle.law.specs.Sums.{both, pick, first}
+use Rattle.law.specs.Tick.{Row, core_at, live, urgent, choose}
+use Rattle.law.specs.State.{row_of, state_of}
+use Rattle.law.proofs.First.{Searched, searched_start, searched_hit, searched_next, searched_end}
+use Rattle.rows.specs.Said.{Laid}
+use Rattle.rows.proofs.Words.{words_long, row_read}
+use Rattle.tick.proofs.choose.Given as goal
+
+unfoldable pub urgents : List ℕ → ℕ → Bool
+urgents words i = urgent (core_at (state_of words).rows i)
+
+unfoldable pub lives : List ℕ → ℕ → Bool
+lives words i = live (core_at (state_of words).rows i)
+
+-- the first live row found so far, or the number of rows
+pub record Best (p : ℕ → Bool) (n i best : ℕ) : Type 0 where
+  pub most : best ≤ n
+  pub found : best < n → first p n ≡ best
+  pub still : best ≡ n → Searched p n i
+
+pub record Choosing (words : List ℕ) (n i best : ℕ) : Type 0 where
+  pub laid : Laid words
+  pub total : n ≡ length (state_of words).rows
+  pub searched : Searched (urgents words) n i
+  pub best-live : Best (lives words) n i best
+
+abbrev pub invariant-loop-i : goal.invariant-loop-i
+invariant-loop-i l = Choosing l.words l.rows l.i l.optional
+
+abbrev pub decreases-loop-i : goal.decreases-loop-i
+decreases-loop-i l = l.rows - l.i

@@ -1,0 +1,20 @@
+-- `tick::release_all` meets its contract: the rows passed have released.
+use mathlib.Core.Path.{sym, ap, ◌∙◌, subst}
+use Prim.Native.Nat.{◌-◌}
+use native.Mathlib.Omega.{arith}
+use Rattle.law.specs.Table.{word_of}
+use Rattle.law.specs.Tick.{Row, full_length, release_row, release_all, begin}
+use Rattle.law.specs.State.{state_of}
+use Rattle.law.specs.Sound.{SoundState, SoundRow}
+use Rattle.rows.specs.Said.{Fetched}
+use Rattle.rows.proofs.Words.{words_long}
+use Rattle.tick.proofs.Loops.{Mapped, mapped_start, mapped_laid, mapped_rows, mapped_row, mapped_next, mapped_end}
+use Rattle.tick.proofs.release_all.Given as goal
+
+abbrev pub invariant-loop-i : goal.invariant-loop-i
+invariant-loop-i l =
+    (Mapped (λ i. release_row (full_length (state_of l.initial.words).rows i)) (state_of l.initial.words) l.words l.rows l.i)
+    × (SoundState 0 (state_of l.initial.words)) × (Fetched (state_of l.initial.words).rows l.patterns)
+
+abbrev pub decreases-loop-i : goal.decreases-loop-i
+decreases-loop-i l = l.rows - l.i

@@ -1,0 +1,49 @@
+-- `verdict::rooms` meets its contract: each way out is a case of the law's answer, and only the last one writes.
+use mathlib.Core.List.{List, [], ◌∷◌}
+use mathlib.Core.Path.{◌≡◌, sym, ap, ◌∙◌}
+use Prim.Native.Nat.{ℕ}
+use native.Mathlib.Omega.{arith}
+use lib.ListN.{length}
+use borrow.Author.Rules.{rules}
+use Rattle.law.specs.Refusal.{accepted}
+use Rattle.law.specs.Table.{table_of, checked}
+use Rattle.law.proofs.Table.{Accepted, checked_accepted}
+use Rattle.law.proofs.Room.{rooms_unchecked, rooms_short, rooms_told}
+use Rattle.table.specs.Said.{shown}
+use Rattle.verdict.proofs.rooms.Goals.{In-Rows}
+use Rattle.verdict.proofs.rooms.Goals as goal
+
+abbrev words : In-Rows → List ℕ
+words c = c.args.words.now
+
+abbrev rows : In-Rows → ℕ
+rows c = c.in-Rows.rows
+
+-- the table was accepted, with its number of rows
+good : (c : In-Rows) → checked (words c) ≡ accepted (rows c ∷ [])
+good c = sym c.check.ensures ∙ ap shown c.in-Rows.is
+
+table : (c : In-Rows) → Accepted (words c) (rows c ∷ [])
+table c = checked_accepted (words c) (rows c ∷ []) (good c)
+
+rows_is : (c : In-Rows) → rows c ≡ length (table_of (words c))
+rows_is c = cc (table c).rows
+
+pub returns-in-Refused : goal.returns-in-Refused
+returns-in-Refused c =
+    let s = c.args in
+    let e = rooms_unchecked s.words.now s.run.now _ _ (sym c.check.ensures ∙ ap shown c.in-Refused.is) in
+    record { answer = sym e.0; run = sym e.1 }
+
+pub returns-then-run-rows : goal.returns-then-run-rows
+returns-then-run-rows c =
+    let e = rooms_short (words (goal.at.returns-then-run-rows c).In-Rows) c.args.run.now _ (good (goal.at.returns-then-run-rows c).In-Rows) (omega (arith, rows_is (goal.at.returns-then-run-rows c).In-Rows)) in
+    record { answer = sym e.0; run = sym e.1 }
+
+pub measure-requires : goal.measure-requires
+measure-requires c = ((table (goal.at.measure-requires c).In-Rows).table, omega (arith, rows_is (goal.at.measure-requires c).In-Rows, c.if-run-rows.false))
+
+pub returns : goal.returns
+returns c =
+    let e = rooms_told (words (goal.at.returns c).In-Rows) c.args.run.now _ (good (goal.at.returns c).In-Rows) (omega (arith, rows_is (goal.at.returns c).In-Rows, c.if-run-rows.false)) in
+    record { answer = ap (λ (z : ℕ). accepted (z ∷ [])) (rows_is (goal.at.returns c).In-Rows) ∙ sym e.0; run = c.measure.ensures ∙ sym e.1 }
