@@ -76,20 +76,20 @@ rows_length [] = refl
 rows_length (r ∷ rows) = length-append (words_of r) (rows_laid rows) ∙ omega (arith, row_length r, rows_length rows, suc-mul (length rows) 20)
 
 -- word j of row i, whatever follows the rows
-rows_at : (rows : List Row) (rest : List ℕ) (i j : ℕ) → i < length rows → j < 20
+rows_at_lem : (rows : List Row) (rest : List ℕ) (i j : ℕ) → i < length rows → j < 20
     → get_or (rows_laid rows ++ rest) (i * 20 + j) 0 ≡ get_or (words_of (get_or rows i no_row)) j 0
 unfolding rows_laid
-rows_at [] rest i j h l = absurd (omega arith)
-rows_at (r ∷ rows) rest zero j h l =
+rows_at_lem [] rest i j h l = absurd (omega arith)
+rows_at_lem (r ∷ rows) rest zero j h l =
     let e : zero * 20 + j ≡ j = omega arith in
     rw e
     (ap (λ (z : List ℕ). get_or z j 0) (append_assoc (words_of r) (rows_laid rows) rest)
     ∙ get_or-append (words_of r) (rows_laid rows ++ rest) 0 j (omega (arith, row_length r)))
-rows_at (r ∷ rows) rest (suc i) j h l =
+rows_at_lem (r ∷ rows) rest (suc i) j h l =
     let e : suc i * 20 + j ≡ length (words_of r) + (i * 20 + j) = omega (arith, suc-mul i 20, row_length r) in
     rw e
     (ap (λ (z : List ℕ). get_or z (length (words_of r) + (i * 20 + j)) 0) (append_assoc (words_of r) (rows_laid rows) rest)
-    ∙ get_or-append-add (words_of r) (rows_laid rows ++ rest) (i * 20 + j) 0 ∙ rows_at rows rest i j (omega arith) l)
+    ∙ get_or-append-add (words_of r) (rows_laid rows ++ rest) (i * 20 + j) 0 ∙ rows_at_lem rows rest i j (omega arith) l)
 
 first_set : (q r : Row) (l rest : List ℕ) → words_of r ++ drop 20 ((words_of q ++ l) ++ rest) ≡ (words_of r ++ l) ++ rest
 unfolding words_of
@@ -137,7 +137,7 @@ laid_word : (s : State) (i j : ℕ) → i < length s.rows → j < 20
 unfolding laid
 laid_word s i j h l =
     let e : i * 20 + (3 + j) ≡ suc (suc (suc (i * 20 + j))) = omega arith in
-    rw e (rows_at s.rows _ i j h l)
+    rw e (rows_at_lem s.rows _ i j h l)
 
 pub laid_row : (s : State) (i : ℕ) → i < length s.rows → row_at (laid s) i ≡ get_or s.rows i no_row
 laid_row s i h =

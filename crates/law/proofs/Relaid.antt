@@ -21,8 +21,8 @@ pub in_rows : (to n q r : ℕ) → q < n → r < to → q * to + r < n * to
 in_rows to n q r h l = omega (arith, mul-le-mul_right {m = suc q} {n = n} to h, suc-mul q to)
 
 -- a place within n rows lies in one of them
-pub row_of : (to n l : ℕ) → 0 < to → l < n * to → l / to < n
-row_of to n l some h =
+pub row_of_lem : (to n l : ℕ) → 0 < to → l < n * to → l / to < n
+row_of_lem to n l some h =
     elim (dec_lt (l / to) n) [
       | yes q ↦ q
       | no q ↦ absurd (omega (arith, mul-le-mul_right {m = n} {n = l / to} to (omega arith), div-add-mod' l to))
@@ -92,7 +92,7 @@ module _ (from to : ℕ) (some : 0 < from) (wider : from ≤ to) where
           let low : r < from = mod-lt l some in
           relaid_at to from wide n (omega arith) wide_long l h
           ∙ ap (λ (b : Bool). pick b (get_or wide (q * to + r) 0) 0) (lt-ltb r to (omega arith))
-          ∙ relaid_row from to words n some whole q r (row_of from n l some h) (omega arith)
+          ∙ relaid_row from to words n some whole q r (row_of_lem from n l some h) (omega arith)
           ∙ ap (λ (b : Bool). pick b (get_or words (q * from + r) 0) 0) (lt-ltb r from low)
           ∙ ap (λ (z : ℕ). get_or words z 0) (div-add-mod' l from)
 
@@ -116,7 +116,7 @@ module _ (from to : ℕ) (some : 0 < from) (wider : from ≤ to) where
           let q = l / to in
           let r = l % to in
           let low : r < to = mod-lt l (omega arith) in
-          let row : q < n = row_of to n l (omega arith) h in
+          let row : q < n = row_of_lem to n l (omega arith) h in
           let same : get_or words (q * to + r) 0 ≡ get_or words l 0 = ap (λ (z : ℕ). get_or words z 0) (div-add-mod' l to) in
           relaid_at from to narrow n some narrow_long l h
           ∙ elim (dec_lt r from) [
@@ -171,7 +171,7 @@ module _ (from to : ℕ) (some : 0 < to) (narrower : to ≤ from) (one rest : Li
       by l zero e h = in_first l (omega (arith, div-add-mod' l to, mod-lt l some, ap (λ (z : ℕ). z * to) e))
       by l (suc q) e h =
           let place : suc q * to + l % to ≡ l = ap (λ (z : ℕ). z * to + l % to) (sym e) ∙ div-add-mod' l to in
-          let there = row_of to (suc n) l some h in
+          let there = row_of_lem to (suc n) l some h in
           ap (λ (z : ℕ). get_or (relaid from to (one ++ rest)) z 0) (sym place)
           ∙ in_others q (l % to) (omega arith) (mod-lt l some)
           ∙ ap (λ (z : ℕ). get_or (take to one ++ relaid from to rest) z 0) place

@@ -38,7 +38,12 @@ fn said(answer: Written, error: &mut [u8]) -> Streams
 
 // That nothing stands on standard error tells a program's caller that all went well. So a text that could not be written whole is told there
 // too. An error is that of a write to `error`, and then nothing is known of what stands there.
-pub fn tell<O: Write, E: Write>(answer: Written, text: &[u8], out: &mut O, error: &mut E) -> io::Result<()>
+pub fn tell<O: Write, E: Write>(
+    answer: Written,
+    text: &[u8],
+    out: &mut O,
+    error: &mut E,
+) -> io::Result<()>
     requires { Tellable answer text.now }
     ensures { OnOk result (Tells (shown answer) text.now (O.contents out.old) (O.contents out.new)
         (E.contents error.old) (E.contents error.new)) }

@@ -157,8 +157,8 @@ module _ (table : List ℕ) (i c : ℕ) (h : i < rows_in table) where
   same_rows : rows_in stored ≡ rows_in table
   same_rows = table_length stored ∙ ap (λ (z : ℕ). z / 7) same_length ∙ sym (table_length table)
 
-  row_of : (j : ℕ) → j < rows_in table → row (table_of table) j ≡ task_at table j
-  row_of j l = table_row table j (omega (arith, table_length table))
+  row_of_lem : (j : ℕ) → j < rows_in table → row (table_of table) j ≡ task_at table j
+  row_of_lem j l = table_row table j (omega (arith, table_length table))
 
   own_row : task_at stored i ≡ with_c c (task_at table i)
   unfolding stored
@@ -176,8 +176,8 @@ module _ (table : List ℕ) (i c : ℕ) (h : i < rows_in table) where
   each_row : (j : ℕ) → j < rows_in table → task_at stored j ≡ row (with_c_at (table_of table) i c) j
   each_row j l =
       elim (ℕ_discrete j i) [
-        | yes e ↦ rw e (own_row ∙ ap (with_c c) (sym (row_of i h)) ∙ sym (with_own (table_of table) i h c))
-        | no o ↦ other_row j o ∙ sym (row_of j l) ∙ sym (with_other (table_of table) i h c j o)
+        | yes e ↦ rw e (own_row ∙ ap (with_c c) (sym (row_of_lem i h)) ∙ sym (with_own (table_of table) i h c))
+        | no o ↦ other_row j o ∙ sym (row_of_lem j l) ∙ sym (with_other (table_of table) i h c j o)
       ]
 
   pub with_c_lem : WithC table (set table (i * 7 + 1) c) i c

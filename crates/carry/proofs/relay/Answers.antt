@@ -10,7 +10,7 @@ use lib.ListN.{length, get_or, take, set, length-set}
 use lib.Seq.{take-suc, take-suc-set, take_all}
 use Rattle.law.specs.Sums.{pick}
 use Rattle.law.specs.Carry.{relaid}
-use Rattle.law.proofs.Relaid.{row_of, relaid_length, relaid_at}
+use Rattle.law.proofs.Relaid.{row_of_lem, relaid_length, relaid_at}
 use Rattle.carry.proofs.relay.Invariants.{Asked, Laid}
 use Rattle.carry.proofs.relay.Goals.{After-word_in}
 use Rattle.carry.proofs.relay.Goals as goal
@@ -19,7 +19,7 @@ module _ {words : List ℕ} {rows from to : ℕ} {old out : List ℕ} {l : ℕ} 
   in_row : l / to * from + from ≤ length words
   in_row =
       let a = i.asked in
-      omega (arith, a.whole, suc-mul (l / to) from, mul-le-mul_right {m = suc (l / to)} {n = rows} from (row_of to rows l a.to_some h))
+      omega (arith, a.whole, suc-mul (l / to) from, mul-le-mul_right {m = suc (l / to)} {n = rows} from (row_of_lem to rows l a.to_some h))
 
   next : (v : ℕ) → v ≡ pick (ltb (l % to) from) (get_or words (l / to * from + l % to) 0) 0 → Laid words rows from to old (set out l v) (l + 1)
   next v e =

@@ -10,7 +10,7 @@ use lib.ListN.{length, get_or, take, set, length-set}
 use lib.Seq.{take-suc, take-suc-set, take_all}
 use Rattle.law.specs.Sums.{pick}
 use Rattle.law.specs.Carry.{relaid}
-use Rattle.law.proofs.Relaid.{row_of, relaid_length, relaid_at}
+use Rattle.law.proofs.Relaid.{row_of_lem, relaid_length, relaid_at}
 use Rattle.carry.proofs.relay.Given as goal
 
 -- what is asked before
