@@ -7,7 +7,6 @@ use native.Mathlib.Nat.{suc-mul, mod-eq_of_lt, mod-eq-sub-mod, div-eq_of_eq-mul_
 use native.Mathlib.Omega.{arith}
 use lib.ListN.{length, get_or, take, drop, length-append, length-map, take-append-drop, get_or-append, get_or-map}
 use lib.Seq.{take-suc, take_all, length-take-le, get_or-append-add}
-use Rattle.law.specs.Table.{row}
 use Rattle.law.specs.Text.{rows_key, keys_of, lines}
 use Rattle.law.specs.Reading.{decimal_of, decimal, text_of}
 use Rattle.law.proofs.TextDecimal.{decimal_one, decimal_more, digits_shortest}

@@ -2,7 +2,6 @@
 use mathlib.Core.Bool.{Bool, true, false}
 use mathlib.Core.List.{[], ◌∷◌}
 use mathlib.Core.Path.{◌≡◌, ap, sym, ◌∙◌}
-use borrow.Author.Rules.{rules}
 use Rattle.law.specs.Sums.{bit}
 use Rattle.law.specs.Refusal.{accepted}
 use Rattle.law.specs.Pattern.{InRange, question}

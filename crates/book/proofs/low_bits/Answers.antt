@@ -1,6 +1,5 @@
 -- `book::low_bits` meets its contract: n bits, cut out of the whole word.
 use Rattle.law.proofs.Window.{cut_is}
-use borrow.Author.Rules.{rules}
 use Rattle.book.proofs.low_bits.Goals as goal
 
 pub returns : goal.returns

@@ -1,8 +1,6 @@
 -- `book::pair_checked` meets its contract: the tests are those of `pair_checked`, in its order.
 use mathlib.Core.Bool.{true}
 use mathlib.Core.Path.{◌≡◌, sym, ◌∙◌}
-use borrow.Author.Rules.{rules}
-use borrow.Author.Tests.{not-true, not-false}
 use Rattle.law.specs.Refusal.{within}
 use Rattle.law.proofs.Question.{pair_k, pair_m, pair_good}
 use Rattle.book.proofs.pair_checked.Goals.{Else-not-is_within}

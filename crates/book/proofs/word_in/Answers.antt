@@ -5,7 +5,6 @@ use Prim.Native.Nat.{ℕ, ◌+◌, ◌*◌, ◌-◌, ◌/◌, ◌≤◌}
 use native.Mathlib.Nat.{mul-le-mul}
 use native.Mathlib.Omega.{arith}
 use lib.ListN.{get_or}
-use borrow.Author.Rules.{rules}
 use Rattle.law.specs.Pattern.{place_of}
 use Rattle.law.proofs.Book.{book_at, place_in_book}
 use Rattle.book.proofs.word_in.Goals as goal

@@ -5,7 +5,6 @@ use Prim.Native.Nat.{ℕ, ◌*◌, ◌≤◌}
 use native.Mathlib.Omega.{arith}
 use lib.ListN.{length, take, replicate}
 use lib.Seq.{take_at, length-take-le}
-use borrow.Author.Rules.{rules}
 use Rattle.law.specs.Refusal.{accepted, head}
 use Rattle.law.specs.Table.{Task, table_of}
 use Rattle.law.specs.Text.{row_keys}

@@ -1,7 +1,7 @@
 -- `carry::relay` meets its contract: word by word, as far as the loop has come.
 use mathlib.Core.List.{List, [], ◌∷◌, ◌++◌}
 use mathlib.Core.Path.{◌≡◌, refl, sym, ap, ◌∙◌}
-use Prim.Native.Nat.{ℕ, suc, ◌+◌, ◌-◌, ◌*◌, ◌/◌, ◌%◌, ◌≤◌, ◌<◌}
+use Prim.Native.Nat.{ℕ, suc, ◌+◌, ◌*◌, ◌/◌, ◌%◌, ◌≤◌, ◌<◌}
 use native.Mathlib.Nat.{suc-mul, mul-le-mul_right}
 use native.Mathlib.Numerals.{add-one}
 use native.Mathlib.Omega.{arith}
@@ -11,7 +11,7 @@ use lib.Seq.{take-suc, take-suc-set, take_all}
 use Rattle.law.specs.Sums.{pick}
 use Rattle.law.specs.Carry.{relaid}
 use Rattle.law.proofs.Relaid.{row_of_lem, relaid_length, relaid_at}
-use Rattle.carry.proofs.relay.Invariants.{Asked, Laid}
+use Rattle.carry.proofs.relay.Invariants.{Laid}
 use Rattle.carry.proofs.relay.Goals.{After-word_in}
 use Rattle.carry.proofs.relay.Goals as goal
 

@@ -1,16 +1,9 @@
 -- `carry::relay` meets its contract: word by word, as far as the loop has come.
-use mathlib.Core.List.{List, [], ◌∷◌, ◌++◌}
-use mathlib.Core.Path.{◌≡◌, refl, sym, ap, ◌∙◌}
-use Prim.Native.Nat.{ℕ, suc, ◌+◌, ◌-◌, ◌*◌, ◌/◌, ◌%◌, ◌≤◌, ◌<◌}
-use native.Mathlib.Nat.{suc-mul, mul-le-mul_right}
-use native.Mathlib.Numerals.{add-one}
-use native.Mathlib.Omega.{arith}
-use lib.Dec.{ltb}
-use lib.ListN.{length, get_or, take, set, length-set}
-use lib.Seq.{take-suc, take-suc-set, take_all}
-use Rattle.law.specs.Sums.{pick}
+use mathlib.Core.List.{List}
+use mathlib.Core.Path.{◌≡◌}
+use Prim.Native.Nat.{ℕ, ◌-◌, ◌*◌, ◌≤◌, ◌<◌}
+use lib.ListN.{length, take}
 use Rattle.law.specs.Carry.{relaid}
-use Rattle.law.proofs.Relaid.{row_of_lem, relaid_length, relaid_at}
 use Rattle.carry.proofs.relay.Given as goal
 
 -- what is asked before

@@ -5,7 +5,6 @@ use Prim.Native.Nat.{ℕ, ◌*◌, ◌≤◌}
 use native.Mathlib.Omega.{arith}
 use lib.ListN.{length, take}
 use lib.Seq.{length-take-le}
-use borrow.Author.Rules.{rules}
 use Rattle.law.specs.Refusal.{accepted, head}
 use Rattle.law.specs.Text.{row_keys, old_keys}
 use Rattle.law.specs.Reading.{words_read, text_of, put_answer, put_room}

@@ -1,10 +1,10 @@
 -- `replay::overwrite` meets its contract: the words passed are those of the other state.
 use mathlib.Core.List.{List, [], ◌∷◌, ◌++◌}
 use mathlib.Core.Path.{◌≡◌, refl, sym, ap, ◌∙◌}
-use Prim.Native.Nat.{ℕ, ◌+◌, ◌-◌, ◌≤◌, ◌<◌}
+use Prim.Native.Nat.{ℕ, ◌+◌, ◌≤◌, ◌<◌}
 use native.Mathlib.Numerals.{add-one}
 use native.Mathlib.Omega.{arith}
-use lib.ListN.{length, get_or, take, set, length-set}
+use lib.ListN.{length, get_or, set, length-set}
 use lib.Seq.{take-suc, take-suc-set, take_all}
 use Rattle.replay.proofs.overwrite.Invariants.{Copied}
 use Rattle.replay.proofs.overwrite.Goals as goal

@@ -1,11 +1,8 @@
 -- `replay::overwrite` meets its contract: the words passed are those of the other state.
-use mathlib.Core.List.{List, [], ◌∷◌, ◌++◌}
-use mathlib.Core.Path.{◌≡◌, refl, sym, ap, ◌∙◌}
-use Prim.Native.Nat.{ℕ, ◌+◌, ◌-◌, ◌≤◌, ◌<◌}
-use native.Mathlib.Numerals.{add-one}
-use native.Mathlib.Omega.{arith}
-use lib.ListN.{length, get_or, take, set, length-set}
-use lib.Seq.{take-suc, take-suc-set, take_all}
+use mathlib.Core.List.{List}
+use mathlib.Core.Path.{◌≡◌}
+use Prim.Native.Nat.{ℕ, ◌-◌, ◌≤◌}
+use lib.ListN.{length, take}
 use Rattle.replay.proofs.overwrite.Given as goal
 
 pub record Copied (state words : List ℕ) (i : ℕ) : Type 0 where

@@ -6,13 +6,11 @@ use Prim.Native.Nat.{ℕ, ◌-◌}
 use native.Mathlib.Omega.{arith}
 use lib.Dec.{leb}
 use lib.ListN.{length}
-use borrow.Author.Tests.{not-true, not-false}
 use Rattle.law.specs.Refusal.{refused}
 use Rattle.law.specs.State.{state_of}
 use Rattle.law.specs.Replay.{releases, replayed}
 use Rattle.law.proofs.Replay.{told_bad, stopped_there}
-use Rattle.rows.proofs.Words.{words_long}
-use Rattle.replay.proofs.Walk.{Walk, walk_start, walk_held, walk_early, walk_fetched, walk_begun, walk_next, walk_told, bad_now, place_now, on_now, off_now, room_now, never_accepted}
+use Rattle.replay.proofs.Walk.{walk_start, walk_held, walk_early, walk_fetched, walk_begun, walk_next, walk_told, bad_now, place_now, on_now, off_now, room_now, never_accepted}
 use Rattle.replay.proofs.replay_ticks.Goals.{Else-not-enough}
 use Rattle.replay.proofs.replay_ticks.Goals as goal
 

@@ -1,18 +1,7 @@
 -- `replay::replay_ticks` meets its contract: each way out of the loop is a case of the law.
-use mathlib.Core.Bool.{true}
-use mathlib.Core.Path.{◌≡◌, sym, ap, ◌∙◌}
-use mathlib.Core.List.{[], ◌∷◌}
-use Prim.Native.Nat.{ℕ, ◌-◌}
-use native.Mathlib.Omega.{arith}
-use lib.Dec.{leb}
-use lib.ListN.{length}
-use borrow.Author.Tests.{not-true, not-false}
-use Rattle.law.specs.Refusal.{refused}
+use Prim.Native.Nat.{◌-◌}
 use Rattle.law.specs.State.{state_of}
-use Rattle.law.specs.Replay.{releases, replayed}
-use Rattle.law.proofs.Replay.{told_bad, stopped_there}
-use Rattle.rows.proofs.Words.{words_long}
-use Rattle.replay.proofs.Walk.{Walk, walk_start, walk_held, walk_early, walk_fetched, walk_begun, walk_next, walk_told, bad_now, place_now, on_now, off_now, room_now, never_accepted}
+use Rattle.replay.proofs.Walk.{Walk}
 use Rattle.replay.proofs.replay_ticks.Given as goal
 
 abbrev pub invariant-loop-done : goal.invariant-loop-done

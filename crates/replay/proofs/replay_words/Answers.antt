@@ -4,7 +4,6 @@ use mathlib.Core.Path.{◌≡◌, sym, ap, ◌∙◌, subst}
 use Prim.Native.Nat.{ℕ, ◌+◌, ◌≤◌}
 use native.Mathlib.Omega.{arith}
 use lib.ListN.{length}
-use borrow.Author.Rules.{rules}
 use Rattle.law.specs.Refusal.{accepted}
 use Rattle.law.specs.Tick.{clock_end}
 use Rattle.law.specs.State.{state_of, laid, run_answer}
@@ -70,6 +69,9 @@ pub returns-in-Done-replay_ticks : goal.returns-in-Done-replay_ticks
 returns-in-Done-replay_ticks c =
     let s = c.args in
     let shows = ap replayed_shown c.in-Done-replay_ticks.is in
-    let e = sym (told (goal.at.returns-in-Done-replay_ticks c).After-replay_ticks) ∙ shows in record { answer = sym (replay_told_lem s.words.now s.n s.log.now (allowed (goal.at.returns-in-Done-replay_ticks c).In-Done) ∙ e); words = c.overwrite-in-Done-replay_ticks.ensures ∙ c.replay_ticks.ensures.words.is _ shows
+    let e = sym (told (goal.at.returns-in-Done-replay_ticks c).After-replay_ticks) ∙ shows in record {
+      answer = sym (replay_told_lem s.words.now s.n s.log.now (allowed (goal.at.returns-in-Done-replay_ticks c).In-Done) ∙ e);
+      words = c.overwrite-in-Done-replay_ticks.ensures ∙ c.replay_ticks.ensures.words.is _ shows
           ∙ ap (λ (z : List ℕ). laid (replayed s.log.now s.n (state_of z)).state) c.overwrite.ensures
-          ∙ sym (replay_done s.words.now s.n s.log.now (allowed (goal.at.returns-in-Done-replay_ticks c).In-Done) _ e) }
+          ∙ sym (replay_done s.words.now s.n s.log.now (allowed (goal.at.returns-in-Done-replay_ticks c).In-Done) _ e);
+    }

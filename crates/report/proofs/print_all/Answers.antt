@@ -5,7 +5,6 @@ use Prim.Native.Nat.{ℕ, ◌+◌, ◌-◌, ◌*◌, ◌≤◌}
 use native.Mathlib.Omega.{arith}
 use lib.ListN.{length, take, drop, replicate, length-append, length-drop}
 use lib.Seq.{take_at, take_all}
-use borrow.Author.Rules.{rules}
 use Rattle.law.specs.Refusal.{accepted, refused, head}
 use Rattle.law.specs.Table.{table_of}
 use Rattle.law.specs.Text.{row_keys}

@@ -1,10 +1,9 @@
 -- `report::report` meets its contract: all that is printed is made apart from the room, and copied into it where it fits.
 use mathlib.Core.List.{List, [], ◌∷◌, ◌++◌}
 use mathlib.Core.Path.{◌≡◌, sym, ap, ◌∙◌}
-use Prim.Native.Nat.{ℕ, ◌+◌}
+use Prim.Native.Nat.{ℕ}
 use native.Mathlib.Omega.{arith}
 use lib.ListN.{length, take, drop, replicate}
-use borrow.Author.Rules.{rules}
 use Rattle.law.specs.Refusal.{accepted}
 use Rattle.law.specs.Report.{printed}
 use Rattle.law.proofs.Report.{printed_most, report_short, report_accepted}

@@ -2,7 +2,6 @@
 use mathlib.Core.Path.{refl}
 use native.Mathlib.Omega.{arith}
 use lib.ListN.{length-set}
-use borrow.Author.Rules.{rules}
 use Rattle.rows.proofs.put_going.Goals as goal
 
 pub bounds-words-at : goal.bounds-words-at

@@ -1,6 +1,5 @@
 -- `rows::row_at` meets its contract: the task, the core's words and the tally.
 use Rattle.law.specs.State.{row_of}
-use borrow.Author.Rules.{rules}
 use Rattle.rows.proofs.row_at.Goals as goal
 
 pub returns : goal.returns

@@ -1,6 +1,5 @@
 -- `rows::tally_of` meets its contract: a field for each word.
 use Rattle.law.specs.State.{row_of}
-use borrow.Author.Rules.{rules}
 use Rattle.rows.proofs.tally_of.Goals as goal
 
 pub returns : goal.returns

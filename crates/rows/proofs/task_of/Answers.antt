@@ -1,7 +1,6 @@
 -- `rows::task_of` meets its contract: a field for each word.
 use Rattle.law.specs.Table.{task_of}
 use Rattle.law.specs.State.{row_of}
-use borrow.Author.Rules.{rules}
 use Rattle.rows.proofs.task_of.Goals as goal
 
 pub returns : goal.returns

@@ -1,14 +1,13 @@
 -- `table::is_repeated` meets its contract: the loop stands at the first earlier row with the id, or has passed only other ids.
-use mathlib.Core.Bool.{Bool}
 use mathlib.Core.List.{List}
 use mathlib.Core.Path.{◌≡◌, sym, ap, ◌∙◌}
-use Prim.Native.Nat.{ℕ, ◌-◌, ◌/◌, ◌<◌}
+use Prim.Native.Nat.{ℕ, ◌/◌, ◌<◌}
 use native.Mathlib.Omega.{arith}
 use lib.Dec.{eqb}
 use lib.ListN.{length}
 use borrow.Author.Tests.{eq-eqb, ne_eqb, lt-ltb, le-ltb}
 use Rattle.law.specs.Table.{Task, task_at, table_of, row, repeated}
-use Rattle.law.proofs.First.{Searched, searched_start, searched_hit, searched_next, searched_end}
+use Rattle.law.proofs.First.{searched_start, searched_hit, searched_next, searched_end}
 use Rattle.law.proofs.Table.{table_row}
 use Rattle.table.proofs.is_repeated.Invariants.{same}
 use Rattle.table.proofs.is_repeated.Goals.{After-struct_known-1}

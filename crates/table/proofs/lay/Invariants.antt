@@ -1,12 +1,8 @@
 -- `table::lay` meets its contract: what is laid so far stands before the rest of the room.
-use mathlib.Core.List.{List}
-use mathlib.Core.Path.{◌≡◌, refl, sym, ap, ◌∙◌}
-use Prim.Native.Nat.{ℕ, ◌-◌, ◌≤◌, ◌<◌}
-use native.Mathlib.Numerals.{add-one}
-use native.Mathlib.Omega.{arith}
-use lib.ListN.{length, take, get_or, set, length-set}
-use lib.Seq.{take-suc, length-take-le}
-use Rattle.law.proofs.Fill.{filled, filled_none, filled_next, filled_is}
+use mathlib.Core.Path.{◌≡◌}
+use Prim.Native.Nat.{◌-◌, ◌≤◌}
+use lib.ListN.{length, take}
+use Rattle.law.proofs.Fill.{filled}
 use Rattle.table.proofs.lay.Given as goal
 
 abbrev pub invariant-loop-i : goal.invariant-loop-i

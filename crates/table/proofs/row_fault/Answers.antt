@@ -1,9 +1,8 @@
 -- `table::row_fault` meets its contract: each return stands behind the tests that `fault_of` makes, in its order.
 use mathlib.Core.Bool.{true}
 use mathlib.Core.Path.{◌≡◌, sym, ◌∙◌}
-use borrow.Author.Rules.{rules}
 use lib.Dec.{leb}
-use borrow.Author.Tests.{not-true, not-false, ltb-true, ltb-false, le-leb, lt-leb}
+use borrow.Author.Tests.{ltb-true, ltb-false, le-leb, lt-leb}
 use Rattle.law.specs.Refusal.{within}
 use Rattle.law.specs.Table.{fault_of}
 use Rattle.table.proofs.row_fault.Goals.{Else-not-is_within, Else-not-is_within-2, Else-not-is_within-3, Else-not-is_within-4, Else-not-is_within-5, Else-not-is_within-6, Else-other}

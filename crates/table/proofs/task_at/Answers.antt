@@ -1,6 +1,5 @@
 -- `table::task_at` meets its contract: a field for each word of the row.
 use Rattle.law.specs.Table.{task_of}
-use borrow.Author.Rules.{rules}
 use Rattle.table.proofs.task_at.Goals as goal
 
 pub returns : goal.returns

@@ -4,7 +4,6 @@ use Prim.Native.Nat.{ℕ, ◌+◌, ◌-◌, ◌/◌, ◌^◌}
 use native.Mathlib.Omega.{arith}
 use lib.Bits.{bit_and}
 use Rattle.law.proofs.Window.{marks_most, marks_oldest, marks_amended}
-use borrow.Author.Rules.{rules}
 use Rattle.tally.proofs.amend.Goals as goal
 
 pub overflow_add-result : goal.overflow_add-result

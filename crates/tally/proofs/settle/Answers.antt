@@ -5,7 +5,6 @@ use native.Mathlib.Omega.{arith}
 use lib.Dec.{ltb}
 use Rattle.law.specs.Sums.{bit}
 use Rattle.law.specs.Tick.{settled}
-use borrow.Author.Rules.{rules}
 use Rattle.tally.proofs.settle.Goals as goal
 
 pub overflow_add-result-5 : goal.overflow_add-result-5

@@ -1,6 +1,5 @@
 -- `tally::shift` meets its contract: shifting, adding the mark and cutting is the law's shift.
 use Rattle.law.proofs.Window.{shift_is}
-use borrow.Author.Rules.{rules}
 use Rattle.tally.proofs.shift.Goals as goal
 
 pub returns : goal.returns

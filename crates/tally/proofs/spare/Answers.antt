@@ -4,8 +4,8 @@ use Prim.Native.Nat.{ℕ, suc, ◌+◌, ◌-◌, ◌/◌, ◌%◌, ◌^◌}
 use native.Mathlib.Omega.{arith}
 use lib.Bits.{bit_and, and_mask}
 use borrow.Author.Tests.{le-leb, lt-leb}
-use Rattle.law.specs.Tick.{marks, still_hold, spare}
-use Rattle.law.proofs.First.{SearchedDown, down_start, down_hit, down_end, down_next}
+use Rattle.law.specs.Tick.{marks, spare}
+use Rattle.law.proofs.First.{down_start, down_hit, down_end, down_next}
 use Rattle.law.proofs.Window.{marks_none, marks_next, marks_most}
 use Rattle.tally.proofs.spare.Goals as goal
 

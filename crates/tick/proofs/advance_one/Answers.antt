@@ -9,7 +9,6 @@ use Rattle.law.specs.State.{row_of, state_of, laid, with_row, words_of}
 use Rattle.law.proofs.Laid.{going}
 use Rattle.rows.proofs.Cases.{waited, is_resting, is_running, rests, goes_on_lem}
 use Rattle.rows.proofs.Words.{words_long, row_read, wait_put, going_put}
-use borrow.Author.Rules.{rules}
 use Rattle.tick.proofs.advance_one.Goals.{After-word-left, After-word-wait, After-word-work, Start}
 use Rattle.tick.proofs.advance_one.Goals as goal
 

@@ -2,18 +2,16 @@
 use mathlib.Core.Bool.{Bool, true, false}
 use mathlib.Core.List.{List}
 use mathlib.Core.Path.{◌≡◌, sym, ap, ◌∙◌}
-use Prim.Native.Nat.{ℕ, ◌+◌, ◌-◌, ◌≤◌, ◌<◌}
+use Prim.Native.Nat.{ℕ, ◌+◌, ◌≤◌, ◌<◌}
 use native.Mathlib.Decide.{dec_lt, ℕ_discrete}
 use native.Mathlib.Omega.{arith}
 use lib.Dec.{eqb, ltb}
 use lib.ListN.{length}
-use borrow.Author.Rules.{rules}
 use borrow.Author.Tests.{eq-eqb, ne_eqb, lt-ltb, le-ltb}
 use Rattle.law.specs.Sums.{both, pick, first}
-use Rattle.law.specs.Tick.{Row, core_at, live, urgent, choose}
+use Rattle.law.specs.Tick.{Row, core_at, choose}
 use Rattle.law.specs.State.{row_of, state_of}
-use Rattle.law.proofs.First.{Searched, searched_start, searched_hit, searched_next, searched_end}
-use Rattle.rows.specs.Said.{Laid}
+use Rattle.law.proofs.First.{searched_start, searched_hit, searched_next, searched_end}
 use Rattle.rows.proofs.Words.{words_long, row_read}
 use Rattle.tick.proofs.choose.Invariants.{urgents, lives, Best, Choosing}
 use Rattle.tick.proofs.choose.Goals.{After-is_urgent}

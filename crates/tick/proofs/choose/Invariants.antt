@@ -1,20 +1,14 @@
 -- `tick::choose` meets its contract: no row passed is urgent, and `optional` is the first live one among them, if any.
-use mathlib.Core.Bool.{Bool, true, false}
+use mathlib.Core.Bool.{Bool}
 use mathlib.Core.List.{List}
-use mathlib.Core.Path.{◌≡◌, sym, ap, ◌∙◌}
-use Prim.Native.Nat.{ℕ, ◌+◌, ◌-◌, ◌≤◌, ◌<◌}
-use native.Mathlib.Decide.{dec_lt, ℕ_discrete}
-use native.Mathlib.Omega.{arith}
-use lib.Dec.{eqb, ltb}
+use mathlib.Core.Path.{◌≡◌}
+use Prim.Native.Nat.{ℕ, ◌-◌, ◌≤◌, ◌<◌}
 use lib.ListN.{length}
-use borrow.Author.Rules.{rules}
-use borrow.Author.Tests.{eq-eqb, ne_eqb, lt-ltb, le-ltb}
-use Rattle.law.specs.Sums.{both, pick, first}
-use Rattle.law.specs.Tick.{Row, core_at, live, urgent, choose}
-use Rattle.law.specs.State.{row_of, state_of}
-use Rattle.law.proofs.First.{Searched, searched_start, searched_hit, searched_next, searched_end}
+use Rattle.law.specs.Sums.{first}
+use Rattle.law.specs.Tick.{core_at, live, urgent}
+use Rattle.law.specs.State.{state_of}
+use Rattle.law.proofs.First.{Searched}
 use Rattle.rows.specs.Said.{Laid}
-use Rattle.rows.proofs.Words.{words_long, row_read}
 use Rattle.tick.proofs.choose.Given as goal
 
 unfoldable pub urgents : List ℕ → ℕ → Bool

@@ -5,7 +5,6 @@ use lib.ListN.{get_or, length-set}
 use lib.Seq.{get_or-set_other}
 use Rattle.rows.proofs.Words.{words_long}
 use Rattle.tick.proofs.Chain.{time_word, idle_word, counted}
-use borrow.Author.Rules.{rules}
 use Rattle.tick.proofs.count_tick.Goals as goal
 
 pub bounds-words-1 : goal.bounds-words-1

@@ -1,7 +1,6 @@
 -- `tick::finish` meets its contract: routine by routine, the words are those of the law's second half.
 use native.Mathlib.Omega.{arith}
 use Rattle.tick.proofs.Chain.{advanced_laid, advanced_time, advanced_idle, finished}
-use borrow.Author.Rules.{rules}
 use Rattle.tick.proofs.finish.Goals as goal
 
 pub choose-chosen-requires : goal.choose-chosen-requires

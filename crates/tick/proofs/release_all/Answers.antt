@@ -1,14 +1,10 @@
 -- `tick::release_all` meets its contract: the rows passed have released.
 use mathlib.Core.Path.{sym, ap, ◌∙◌, subst}
-use Prim.Native.Nat.{◌-◌}
 use native.Mathlib.Omega.{arith}
 use Rattle.law.specs.Table.{word_of}
-use Rattle.law.specs.Tick.{Row, full_length, release_row, release_all, begin}
-use Rattle.law.specs.State.{state_of}
-use Rattle.law.specs.Sound.{SoundState, SoundRow}
-use Rattle.rows.specs.Said.{Fetched}
-use Rattle.rows.proofs.Words.{words_long}
-use Rattle.tick.proofs.Loops.{Mapped, mapped_start, mapped_laid, mapped_rows, mapped_row, mapped_next, mapped_end}
+use Rattle.law.specs.Tick.{Row, release_row, release_all, begin}
+use Rattle.law.specs.Sound.{SoundRow}
+use Rattle.tick.proofs.Loops.{mapped_start, mapped_laid, mapped_rows, mapped_row, mapped_next, mapped_end}
 use Rattle.tick.proofs.release_all.Goals as goal
 
 pub rows_of-rows-requires : goal.rows_of-rows-requires

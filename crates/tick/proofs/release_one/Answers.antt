@@ -8,7 +8,6 @@ use Rattle.law.specs.Tick.{Row, no_row, release_row}
 use Rattle.law.specs.State.{row_of, state_of, laid, with_row}
 use Rattle.rows.proofs.Cases.{waits_on}
 use Rattle.rows.proofs.Words.{words_long, row_read, row_kept}
-use borrow.Author.Rules.{rules}
 use Rattle.tick.proofs.release_one.Goals.{After-word, After-word-work}
 use Rattle.tick.proofs.release_one.Goals as goal
 

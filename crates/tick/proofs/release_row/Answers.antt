@@ -7,7 +7,6 @@ use Rattle.law.specs.Tick.{Row, no_row, release_row}
 use Rattle.law.specs.State.{state_of, laid, with_row}
 use Rattle.rows.specs.Said.{row_said, Timed}
 use Rattle.rows.proofs.Words.{words_long, row_read, row_put}
-use borrow.Author.Rules.{rules}
 use Rattle.tick.proofs.release_row.Goals.{After-row_at-r}
 use Rattle.tick.proofs.release_row.Goals as goal
 
@@ -18,12 +17,11 @@ pub row_at-r-requires : goal.row_at-r-requires
 row_at-r-requires c = let p = c.requires in (words_long p.0, omega (arith, p.0.few))
 
 pub released-requires : goal.released-requires
-released-requires c =
-    (
-      subst (Timed 0) (sym (read (goal.at.released-requires c).After-row_at-r)) c.requires.2,
-      ap (λ (z : Row). z.core.wait) (read (goal.at.released-requires c).After-row_at-r) ∙ c.requires.3,
-      c.requires.4 ∙ ap (λ (z : Row). word_of z.core.task) (sym (read (goal.at.released-requires c).After-row_at-r)),
-    )
+released-requires c = (
+  subst (Timed 0) (sym (read (goal.at.released-requires c).After-row_at-r)) c.requires.2,
+  ap (λ (z : Row). z.core.wait) (read (goal.at.released-requires c).After-row_at-r) ∙ c.requires.3,
+  c.requires.4 ∙ ap (λ (z : Row). word_of z.core.task) (sym (read (goal.at.released-requires c).After-row_at-r)),
+)
 
 pub put_row-requires : goal.put_row-requires
 put_row-requires c = let p = c.requires in (words_long p.0, omega (arith, p.0.few))

@@ -6,7 +6,6 @@ use Rattle.law.specs.Tick.{Row, no_row, advance_row}
 use Rattle.law.specs.State.{state_of, laid, with_row}
 use Rattle.rows.specs.Said.{row_said, Timed}
 use Rattle.rows.proofs.Words.{words_long, row_read, row_put}
-use borrow.Author.Rules.{rules}
 use Rattle.tick.proofs.settle_one.Goals.{After-row_at-r}
 use Rattle.tick.proofs.settle_one.Goals as goal
 

@@ -3,7 +3,6 @@ use Rattle.law.specs.Tick.{full_length, tick}
 use Rattle.law.specs.State.{state_of}
 use Rattle.law.proofs.Ticks.{full_lengths_lem}
 use Rattle.tick.proofs.Chain.{begun_held, ticked_with}
-use borrow.Author.Rules.{rules}
 use Rattle.tick.proofs.tick.Goals as goal
 
 pub finish-requires : goal.finish-requires

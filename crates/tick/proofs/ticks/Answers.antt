@@ -1,15 +1,14 @@
 -- `tick::ticks` meets its contract: after `done` ticks the words are those of the law's run so far.
 use mathlib.Core.List.{List}
 use mathlib.Core.Path.{◌≡◌, sym, ap, ◌∙◌, subst}
-use Prim.Native.Nat.{ℕ, ◌+◌, ◌-◌, ◌≤◌, ◌<◌}
+use Prim.Native.Nat.{ℕ, ◌+◌, ◌≤◌, ◌<◌}
 use native.Mathlib.Numerals.{add-one}
 use native.Mathlib.Omega.{arith}
 use Rattle.law.specs.Tick.{State, tick, run, clock_end}
 use Rattle.law.specs.State.{state_of, laid}
-use Rattle.law.specs.Sound.{SoundState}
 use Rattle.law.proofs.Ticks.{run_sound, run_time, run_tasks}
 use Rattle.rows.specs.Said.{Held, Fetched}
-use Rattle.rows.proofs.Words.{words_long, says}
+use Rattle.rows.proofs.Words.{says}
 use Rattle.tick.proofs.Chain.{held_as, fetched_still}
 use Rattle.tick.proofs.ticks.Invariants.{Ran}
 use Rattle.tick.proofs.ticks.Goals as goal

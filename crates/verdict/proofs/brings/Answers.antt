@@ -9,7 +9,6 @@ use Rattle.law.specs.Verdict.{demand}
 use Rattle.law.proofs.Ceil.{ceil_least, ceil_high}
 use Rattle.law.proofs.Verdict.{demand_small}
 use Rattle.table.specs.Said.{task_said}
-use borrow.Author.Rules.{rules}
 use Rattle.verdict.specs.Stretch.{next_release}
 use Rattle.verdict.proofs.brings.Goals.{After-count}
 use Rattle.verdict.proofs.brings.Goals as goal

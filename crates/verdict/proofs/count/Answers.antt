@@ -1,5 +1,4 @@
 -- `verdict::count` meets its contract: each pattern's count by the row's p.
-use borrow.Author.Rules.{rules}
 use borrow.Author.Tests.{eq-eqb, ne_eqb}
 use Rattle.law.specs.Table.{count_of}
 use Rattle.verdict.proofs.count.Goals as goal

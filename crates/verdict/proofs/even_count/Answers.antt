@@ -5,7 +5,6 @@ use native.Mathlib.Nat.{mul-le-mul}
 use native.Mathlib.Omega.{arith}
 use Rattle.law.specs.Sums.{ceil}
 use Rattle.law.specs.Pattern.{count}
-use borrow.Author.Rules.{rules}
 use Rattle.verdict.proofs.even_count.Goals.{Start}
 use Rattle.verdict.proofs.even_count.Goals as goal
 

@@ -1,12 +1,12 @@
 -- `verdict::measure` meets its contract: the rooms of the rows passed stand in front, and the rest is as it was.
 use mathlib.Core.List.{List, [], ◌∷◌, ◌++◌}
 use mathlib.Core.Path.{◌≡◌, refl, sym, ap, ◌∙◌}
-use Prim.Native.Nat.{ℕ, ◌+◌, ◌-◌, ◌/◌, ◌≤◌, ◌<◌}
+use Prim.Native.Nat.{ℕ, ◌+◌, ◌≤◌, ◌<◌}
 use native.Mathlib.Numerals.{add-one}
 use native.Mathlib.Omega.{arith}
 use lib.ListN.{length, set, drop, length-set}
 use Rattle.law.specs.Sums.{build}
-use Rattle.law.specs.Table.{table_of, WellFormed}
+use Rattle.law.specs.Table.{table_of}
 use Rattle.law.specs.Room.{room as room_law, rooms}
 use Rattle.law.proofs.First.{build_length}
 use Rattle.law.proofs.Fill.{filled, filled_none, filled_is, filled_next}

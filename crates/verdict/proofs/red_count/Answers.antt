@@ -2,7 +2,6 @@
 use Prim.Native.Nat.{◌*◌, ◌/◌, ◌%◌, ◌≤◌}
 use native.Mathlib.Nat.{mul-le-mul_left, div-mul-le_self}
 use native.Mathlib.Omega.{arith}
-use borrow.Author.Rules.{rules}
 use borrow.Author.Tests.{le-leb, lt-leb}
 use Rattle.law.specs.Pattern.{red_count}
 use Rattle.verdict.proofs.red_count.Goals.{Start}

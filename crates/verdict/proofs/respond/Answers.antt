@@ -2,16 +2,15 @@
 use mathlib.Core.Bool.{Bool, true, false, not}
 use mathlib.Core.List.{List, [], ◌∷◌, ◌++◌}
 use mathlib.Core.Path.{◌≡◌, refl, sym, ap, ◌∙◌}
-use Prim.Native.Nat.{ℕ, ◌+◌, ◌-◌, ◌/◌, ◌≤◌, ◌<◌}
+use Prim.Native.Nat.{ℕ, ◌+◌, ◌/◌, ◌≤◌, ◌<◌}
 use native.Mathlib.Numerals.{add-one}
 use native.Mathlib.Omega.{arith}
 use lib.ListN.{length, take, set, replicate, length-set, length-replicate}
-use borrow.Author.Rules.{rules}
 use borrow.Author.Tests.{leb-true}
 use Rattle.law.specs.Sums.{pick, first, build}
-use Rattle.law.specs.Table.{Task, table_of, WellFormed}
+use Rattle.law.specs.Table.{Task, table_of}
 use Rattle.law.specs.Verdict.{response, fits, misfit, responses}
-use Rattle.law.proofs.First.{Searched, searched_start, searched_hit, searched_next, searched_end, build_length}
+use Rattle.law.proofs.First.{searched_start, searched_hit, searched_next, searched_end, build_length}
 use Rattle.law.proofs.Fill.{filled, filled_none, filled_next, filled_front}
 use Rattle.law.proofs.Table.{table_length}
 use Rattle.verdict.specs.declared.Fit.TheVariants.{At, Never}

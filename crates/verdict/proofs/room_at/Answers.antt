@@ -1,6 +1,5 @@
 -- `verdict::room_at` meets its contract: t less what rows above bring, 0 where that is not positive.
 use native.Mathlib.Omega.{arith}
-use borrow.Author.Rules.{rules}
 use Rattle.law.specs.Room.{room_at}
 use Rattle.verdict.proofs.room_at.Goals as goal
 

@@ -4,7 +4,6 @@ use mathlib.Core.Path.{◌≡◌, sym, ap, ◌∙◌}
 use Prim.Native.Nat.{ℕ}
 use native.Mathlib.Omega.{arith}
 use lib.ListN.{length}
-use borrow.Author.Rules.{rules}
 use Rattle.law.specs.Refusal.{accepted}
 use Rattle.law.specs.Table.{table_of, checked}
 use Rattle.law.proofs.Table.{Accepted, checked_accepted}

@@ -2,15 +2,15 @@
 -- that does.
 use mathlib.Core.List.{List}
 use mathlib.Core.Path.{◌≡◌, sym, ap, ◌∙◌}
-use Prim.Native.Nat.{ℕ, ◌+◌, ◌-◌, ◌*◌, ◌/◌, ◌≤◌, ◌<◌}
+use Prim.Native.Nat.{ℕ, ◌+◌, ◌*◌, ◌/◌, ◌≤◌, ◌<◌}
 use native.Mathlib.Omega.{arith}
 use lib.ListN.{length}
 use borrow.Author.Tests.{lt-leb}
-use Rattle.law.specs.Table.{Task, table_of, row, WellFormed}
+use Rattle.law.specs.Table.{Task, table_of, row}
 use Rattle.law.specs.Verdict.{above, load}
 use Rattle.law.specs.Room.{room as room_law}
 use Rattle.law.proofs.Table.{table_length, table_row}
-use Rattle.law.proofs.Verdict.{above_small, Sought, sought_start, sought_fits, sought_leap, fits_yes}
+use Rattle.law.proofs.Verdict.{above_small, sought_start, sought_fits, sought_leap, fits_yes}
 use Rattle.law.proofs.Room.{fits_room, sought_within}
 use Rattle.verdict.specs.declared.Fit.TheVariants.{At, Never}
 use Rattle.verdict.specs.Said.{fit_of}

@@ -1,19 +1,12 @@
 -- `verdict::search` meets its contract: a row with more C than room never fits; otherwise no tick before t fits, and a leap to the load at t passes over none
 -- that does.
 use mathlib.Core.List.{List}
-use mathlib.Core.Path.{◌≡◌, sym, ap, ◌∙◌}
-use Prim.Native.Nat.{ℕ, ◌+◌, ◌-◌, ◌*◌, ◌/◌, ◌≤◌, ◌<◌}
-use native.Mathlib.Omega.{arith}
+use mathlib.Core.Path.{◌≡◌}
+use Prim.Native.Nat.{ℕ, ◌+◌, ◌-◌, ◌<◌}
 use lib.ListN.{length}
-use borrow.Author.Tests.{lt-leb}
-use Rattle.law.specs.Table.{Task, table_of, row, WellFormed}
-use Rattle.law.specs.Verdict.{above, load}
+use Rattle.law.specs.Table.{table_of, row, WellFormed}
 use Rattle.law.specs.Room.{room as room_law}
-use Rattle.law.proofs.Table.{table_length, table_row}
-use Rattle.law.proofs.Verdict.{above_small, Sought, sought_start, sought_fits, sought_leap, fits_yes}
-use Rattle.law.proofs.Room.{fits_room, sought_within}
-use Rattle.verdict.specs.declared.Fit.TheVariants.{At, Never}
-use Rattle.verdict.specs.Said.{fit_of}
+use Rattle.law.proofs.Verdict.{Sought}
 use Rattle.verdict.proofs.search.Given as goal
 
 pub record Seeking (words : List ℕ) (i c room t : ℕ) : Type 0 where

@@ -1,11 +1,9 @@
 -- `verdict::search_room` meets its contract: the walk goes from stretch to stretch, and what it passes has no more to give than the best found.
 use mathlib.Core.List.{List}
-use mathlib.Core.Logic.{⊎_elim}
 use mathlib.Core.Path.{◌≡◌, sym, ap, ◌∙◌, subst}
 use Prim.Native.Nat.{ℕ, ◌+◌, ◌-◌, ◌*◌, ◌≤◌, ◌<◌}
 use native.Mathlib.Omega.{arith}
-use lib.ListN.{length}
-use Rattle.law.specs.Table.{Task, table_of, row, WellFormed}
+use Rattle.law.specs.Table.{Task, table_of, row}
 use Rattle.law.specs.Verdict.{above}
 use Rattle.law.specs.Room.{room_at, room}
 use Rattle.law.proofs.Table.{table_length, table_row}

@@ -1,14 +1,13 @@
 -- `verdict::stretch` meets its contract: the demand of the rows passed and their next release; the sum stays far below 64 bits.
 use mathlib.Core.List.{List}
-use mathlib.Core.Logic.{⊎_elim}
 use mathlib.Core.Path.{◌≡◌, refl, sym, ap, ◌∙◌}
-use Prim.Native.Nat.{ℕ, ◌+◌, ◌-◌, ◌/◌, ◌≤◌, ◌<◌}
+use Prim.Native.Nat.{ℕ, ◌+◌, ◌/◌, ◌<◌}
 use native.Mathlib.Numerals.{add-one}
 use native.Mathlib.Omega.{arith}
 use lib.ListN.{length}
 use Rattle.law.specs.Sums.{sum, smaller}
-use Rattle.law.specs.Table.{Task, table_of, row, WellFormed}
-use Rattle.law.specs.Verdict.{demand, above}
+use Rattle.law.specs.Table.{Task, table_of, row}
+use Rattle.law.specs.Verdict.{demand}
 use Rattle.law.proofs.Table.{table_length, table_row}
 use Rattle.law.proofs.Verdict.{above_small}
 use Rattle.table.specs.Said.{task_said}

@@ -9,7 +9,6 @@ use Rattle.law.specs.Tick.{Row, no_row, spare}
 use Rattle.law.specs.State.{state_of, counts_of}
 use Rattle.rows.specs.Said.{row_said}
 use Rattle.rows.proofs.Words.{words_long, row_read}
-use borrow.Author.Rules.{rules}
 use Rattle.dispatch.proofs.counts.counts_of.Goals.{After-row_at-r}
 use Rattle.dispatch.proofs.counts.counts_of.Goals as goal
 

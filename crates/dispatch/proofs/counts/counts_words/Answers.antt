@@ -6,8 +6,6 @@ use Prim.Native.Nat.{ℕ}
 use native.Mathlib.Omega.{arith}
 use lib.ListN.{drop, length-set}
 use lib.Seq.{sets-eq}
-use borrow.Author.Rules.{rules}
-use borrow.Author.Tests.{not-true, not-false}
 use Rattle.law.specs.State.{saved_well}
 use Rattle.dispatch.specs.Shown.{counts_said}
 use Rattle.dispatch.proofs.Saved.{saved_held, counts_ill, counts_short, counts_laid}

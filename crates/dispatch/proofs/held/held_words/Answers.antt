@@ -5,11 +5,9 @@ use mathlib.Core.Path.{◌≡◌, sym, ap, ◌∙◌}
 use Prim.Native.Nat.{ℕ}
 use native.Mathlib.Omega.{arith}
 use lib.ListN.{get_or}
-use borrow.Author.Tests.{not-true, not-false}
 use Rattle.law.specs.Refusal.{within, accepted}
 use Rattle.law.proofs.Question.{within_high}
 use Rattle.dispatch.proofs.Saved.{frame_length, frame_rows, frame_none, frame_row}
-use borrow.Author.Rules.{rules}
 use Rattle.dispatch.proofs.held.held_words.Goals.{Else-not-is_within}
 use Rattle.dispatch.proofs.held.held_words.Goals as goal
 

@@ -2,13 +2,11 @@
 use mathlib.Core.Bool.{true}
 use mathlib.Core.Path.{◌≡◌, sym, ◌∙◌}
 use native.Mathlib.Omega.{arith}
-use borrow.Author.Tests.{not-true, not-false}
 use Rattle.law.specs.State.{saved_well}
 use Rattle.rows.specs.Said.{Held}
 use Rattle.rows.proofs.Words.{words_long}
 use Rattle.tick.proofs.Chain.{time_word}
 use Rattle.dispatch.proofs.Saved.{saved_held, run_ill, run_past, run_done}
-use borrow.Author.Rules.{rules}
 use Rattle.dispatch.proofs.run.may_run.Goals.{Else-not-is_well}
 use Rattle.dispatch.proofs.run.may_run.Goals as goal
 

@@ -9,7 +9,6 @@ use Rattle.rows.specs.Said.{Held}
 use Rattle.tick.proofs.Chain.{time_word}
 use Rattle.dispatch.specs.Shown.{ran_shown}
 use Rattle.dispatch.proofs.Saved.{saved_held, run_refused, run_done}
-use borrow.Author.Rules.{rules}
 use Rattle.dispatch.proofs.run.run_words.Goals.{In-Done}
 use Rattle.dispatch.proofs.run.run_words.Goals as goal
 

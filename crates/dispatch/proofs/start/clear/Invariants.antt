@@ -1,11 +1,8 @@
 -- `dispatch::start::clear` meets its contract: the words passed are 0.
-use mathlib.Core.List.{List, ◌++◌, append-nil}
-use mathlib.Core.Path.{◌≡◌, refl, ap, ◌∙◌}
-use Prim.Native.Nat.{ℕ, ◌+◌, ◌-◌, ◌≤◌}
-use native.Mathlib.Nat.{le_refl}
-use native.Mathlib.Omega.{arith}
-use lib.ListN.{length, drop, set, replicate, length-set, drop_of_length-le}
-use borrow.Author.Fill.{fill_none, fill_more}
+use mathlib.Core.List.{◌++◌}
+use mathlib.Core.Path.{◌≡◌}
+use Prim.Native.Nat.{◌-◌, ◌≤◌}
+use lib.ListN.{length, drop, replicate}
 use Rattle.dispatch.proofs.start.clear.Given as goal
 
 abbrev pub invariant-loop-i : goal.invariant-loop-i

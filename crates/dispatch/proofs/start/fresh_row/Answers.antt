@@ -1,6 +1,5 @@
 -- `dispatch::start::fresh_row` meets its contract: a word of k set bits for the window.
 use Rattle.table.specs.Said.{task_said}
-use borrow.Author.Rules.{rules}
 use Rattle.dispatch.proofs.start.fresh_row.Goals as goal
 
 pub returns : goal.returns

@@ -9,7 +9,6 @@ use Rattle.law.specs.Table.{checked}
 use Rattle.law.proofs.Table.{Accepted, checked_accepted}
 use Rattle.table.specs.Said.{shown}
 use Rattle.dispatch.proofs.Saved.{fresh_unchecked, fresh_short, fresh_laid}
-use borrow.Author.Rules.{rules}
 use Rattle.dispatch.proofs.start.fresh_words.Goals.{Else-room-lt-STATE_WORDS, In-Rows}
 use Rattle.dispatch.proofs.start.fresh_words.Goals as goal
 

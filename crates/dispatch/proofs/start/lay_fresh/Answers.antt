@@ -1,12 +1,11 @@
 -- `dispatch::start::lay_fresh` meets its contract: from all-zero words with their number of rows, each row passed is fresh.
 use mathlib.Core.List.{List, map}
 use mathlib.Core.Path.{◌≡◌, sym, ap, ◌∙◌, subst}
-use Prim.Native.Nat.{ℕ, ◌+◌, ◌-◌, ◌/◌, ◌≤◌, ◌<◌}
+use Prim.Native.Nat.{ℕ, ◌+◌, ◌/◌, ◌≤◌, ◌<◌}
 use native.Mathlib.Nat.{zero-add}
 use native.Mathlib.Omega.{arith}
 use lib.ListN.{length, set, replicate, length-replicate, length-map, get_or-map}
 use lib.Seq.{ext_get_or}
-use borrow.Author.Rules.{rules}
 use Rattle.law.specs.Sums.{map_from}
 use Rattle.law.specs.Table.{Task, no_task, table_of, row, Ranged, WellFormed}
 use Rattle.law.specs.Tick.{Row, no_row, fresh_row, fresh}
@@ -16,7 +15,7 @@ use Rattle.law.proofs.Table.{table_length, table_row}
 use Rattle.law.proofs.Laid.{blank, blank_laid}
 use Rattle.table.specs.Said.{task_said}
 use Rattle.rows.proofs.Words.{words_long, row_put}
-use Rattle.tick.proofs.Loops.{with_rows, Mapped, mapped_laid, mapped_rows, mapped_next, mapped_end}
+use Rattle.tick.proofs.Loops.{with_rows, mapped_laid, mapped_rows, mapped_next, mapped_end}
 use Rattle.dispatch.proofs.start.lay_fresh.Invariants.{freshAt, Laying}
 use Rattle.dispatch.proofs.start.lay_fresh.Goals.{After-task_at}
 use Rattle.dispatch.proofs.start.lay_fresh.Goals as goal

@@ -1,22 +1,11 @@
 -- `dispatch::start::lay_fresh` meets its contract: from all-zero words with their number of rows, each row passed is fresh.
-use mathlib.Core.List.{List, map}
-use mathlib.Core.Path.{◌≡◌, sym, ap, ◌∙◌, subst}
-use Prim.Native.Nat.{ℕ, ◌+◌, ◌-◌, ◌/◌, ◌≤◌, ◌<◌}
-use native.Mathlib.Nat.{zero-add}
-use native.Mathlib.Omega.{arith}
-use lib.ListN.{length, set, replicate, length-replicate, length-map, get_or-map}
-use lib.Seq.{ext_get_or}
-use borrow.Author.Rules.{rules}
-use Rattle.law.specs.Sums.{map_from}
-use Rattle.law.specs.Table.{Task, no_task, table_of, row, Ranged, WellFormed}
-use Rattle.law.specs.Tick.{Row, no_row, fresh_row, fresh}
-use Rattle.law.specs.State.{state_of, laid, with_row}
-use Rattle.law.proofs.Sums.{map_to_none, map_from_length, map_from_at}
-use Rattle.law.proofs.Table.{table_length, table_row}
-use Rattle.law.proofs.Laid.{blank, blank_laid}
-use Rattle.table.specs.Said.{task_said}
-use Rattle.rows.proofs.Words.{words_long, row_put}
-use Rattle.tick.proofs.Loops.{with_rows, Mapped, mapped_laid, mapped_rows, mapped_next, mapped_end}
+use mathlib.Core.List.{List}
+use Prim.Native.Nat.{ℕ, ◌-◌, ◌/◌}
+use lib.ListN.{length}
+use Rattle.law.specs.Table.{table_of, row, WellFormed}
+use Rattle.law.specs.Tick.{Row, fresh_row}
+use Rattle.law.proofs.Laid.{blank}
+use Rattle.tick.proofs.Loops.{Mapped}
 use Rattle.dispatch.proofs.start.lay_fresh.Given as goal
 
 unfoldable pub freshAt : List ℕ → ℕ → Row → Row

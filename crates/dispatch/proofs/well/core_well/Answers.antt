@@ -1,7 +1,6 @@
 -- `dispatch::well::core_well` meets its contract: each way out is a test of the law.
 use mathlib.Core.Path.{◌∙◌}
 use Rattle.dispatch.proofs.Tests.{wait_off, place_off, work_off, core_on}
-use borrow.Author.Rules.{rules}
 use Rattle.dispatch.proofs.well.core_well.Goals as goal
 
 pub returns-then-r : goal.returns-then-r

@@ -1,14 +1,10 @@
 -- `dispatch::well::is_clear` meets its contract: all are 0 where those put together so far are, and those from i on.
-use mathlib.Core.Bool.{Bool, true, false}
-use mathlib.Core.Path.{◌≡◌, refl, sym, ap, ◌∙◌}
-use Prim.Native.Nat.{ℕ, zero, suc, ◌+◌, ◌-◌}
-use native.Mathlib.Omega.{arith}
-use lib.Bits.{bit_or, or_zero_l, or_add_and, and_le_r}
+use mathlib.Core.Bool.{Bool}
+use mathlib.Core.Path.{◌≡◌}
+use Prim.Native.Nat.{ℕ, ◌-◌}
 use lib.Dec.{eqb}
-use lib.ListN.{length, get_or, drop}
-use borrow.Author.Tests.{ne_eqb}
+use lib.ListN.{length, drop}
 use Rattle.law.specs.Sums.{both, every}
-use Rattle.law.proofs.Sums.{every_next, every_end}
 use Rattle.dispatch.proofs.well.is_clear.Given as goal
 
 unfoldable pub clear : ℕ → Bool

@@ -1,15 +1,12 @@
 -- `dispatch::well::is_repeated` meets its contract: the loop stands at the first earlier row with the id, or has passed only other ids.
-use mathlib.Core.Bool.{Bool}
-use mathlib.Core.List.{List}
 use mathlib.Core.Path.{◌≡◌, sym, ap, ◌∙◌}
-use Prim.Native.Nat.{ℕ, ◌-◌, ◌<◌}
+use Prim.Native.Nat.{ℕ}
 use native.Mathlib.Omega.{arith}
 use lib.Dec.{eqb}
 use borrow.Author.Tests.{eq-eqb, ne_eqb, lt-ltb, le-ltb}
-use Rattle.law.specs.Table.{Task, task_of, row, repeated}
-use Rattle.law.specs.State.{row_of, state_of, tasks_of}
-use Rattle.law.proofs.First.{Searched, searched_start, searched_hit, searched_next, searched_end}
-use Rattle.rows.specs.Said.{Sized}
+use Rattle.law.specs.Table.{Task, task_of, repeated}
+use Rattle.law.specs.State.{row_of}
+use Rattle.law.proofs.First.{searched_start, searched_hit, searched_next, searched_end}
 use Rattle.rows.proofs.Words.{task_read}
 use Rattle.dispatch.proofs.well.is_repeated.Invariants.{id_of, same}
 use Rattle.dispatch.proofs.well.is_repeated.Goals.{After-word}

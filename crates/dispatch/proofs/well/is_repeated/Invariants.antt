@@ -1,16 +1,13 @@
 -- `dispatch::well::is_repeated` meets its contract: the loop stands at the first earlier row with the id, or has passed only other ids.
 use mathlib.Core.Bool.{Bool}
 use mathlib.Core.List.{List}
-use mathlib.Core.Path.{◌≡◌, sym, ap, ◌∙◌}
+use mathlib.Core.Path.{◌≡◌}
 use Prim.Native.Nat.{ℕ, ◌-◌, ◌<◌}
-use native.Mathlib.Omega.{arith}
 use lib.Dec.{eqb}
-use borrow.Author.Tests.{eq-eqb, ne_eqb, lt-ltb, le-ltb}
-use Rattle.law.specs.Table.{Task, task_of, row, repeated}
-use Rattle.law.specs.State.{row_of, state_of, tasks_of}
-use Rattle.law.proofs.First.{Searched, searched_start, searched_hit, searched_next, searched_end}
+use Rattle.law.specs.Table.{row}
+use Rattle.law.specs.State.{state_of, tasks_of}
+use Rattle.law.proofs.First.{Searched}
 use Rattle.rows.specs.Said.{Sized}
-use Rattle.rows.proofs.Words.{task_read}
 use Rattle.dispatch.proofs.well.is_repeated.Given as goal
 
 unfoldable pub id_of : List ℕ → ℕ → ℕ

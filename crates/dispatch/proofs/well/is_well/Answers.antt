@@ -4,13 +4,12 @@ use mathlib.Core.Path.{◌≡◌, sym, ◌∙◌}
 use native.Mathlib.Omega.{arith}
 use lib.Dec.{eqb}
 use lib.ListN.{get_or}
-use borrow.Author.Tests.{not-true, not-false, eqb-true}
+use borrow.Author.Tests.{eqb-true}
 use Rattle.law.specs.Refusal.{within}
 use Rattle.law.specs.Table.{faulty}
 use Rattle.law.specs.State.{tasks_of, state_of}
 use Rattle.rows.specs.Said.{Sized}
 use Rattle.dispatch.proofs.Saved.{length_off, rows_off, sized, table_off, time_off, idle_off, row_off, all_on}
-use borrow.Author.Rules.{rules}
 use Rattle.dispatch.proofs.well.is_well.Goals.{Else-not-is_within, Else-not-table_clean}
 use Rattle.dispatch.proofs.well.is_well.Goals as goal
 

@@ -1,7 +1,6 @@
 -- `dispatch::well::job_well` meets its contract: each way out is a test of the law.
 use mathlib.Core.Path.{sym, ◌∙◌}
 use Rattle.dispatch.proofs.Tests.{rest_well, rest_late, run_well, run_late}
-use borrow.Author.Rules.{rules}
 use Rattle.dispatch.proofs.well.job_well.Goals as goal
 
 pub returns-then-r-eq0-2 : goal.returns-then-r-eq0-2

@@ -1,7 +1,6 @@
 -- `dispatch::well::row_well` meets its contract: the tally, then the core.
 use mathlib.Core.Path.{sym, ◌∙◌}
 use Rattle.law.specs.State.{row_well}
-use borrow.Author.Rules.{rules}
 use Rattle.dispatch.proofs.well.row_well.Goals as goal
 
 pub returns-then-tally_well : goal.returns-then-tally_well

@@ -1,19 +1,16 @@
 -- `dispatch::well::rows_well` meets its contract: the rows passed are well, so what is left to test are those from i on.
 use mathlib.Core.List.{List}
 use mathlib.Core.Path.{◌≡◌, refl, sym, ap, ◌∙◌, subst}
-use Prim.Native.Nat.{ℕ, ◌-◌, ◌≤◌, ◌<◌}
+use Prim.Native.Nat.{ℕ, ◌<◌}
 use native.Mathlib.Omega.{arith}
-use lib.ListN.{length, drop, get_or}
-use borrow.Author.Tests.{not-true, not-false}
-use Rattle.law.specs.Sums.{every}
+use lib.ListN.{length, get_or}
 use Rattle.law.specs.Pattern.{InRange}
-use Rattle.law.specs.Table.{faulty, row}
-use Rattle.law.specs.Tick.{Row, no_row, clock_end}
+use Rattle.law.specs.Table.{row}
+use Rattle.law.specs.Tick.{Row, no_row}
 use Rattle.law.specs.State.{state_of, tasks_of, row_at, row_well}
 use Rattle.law.proofs.Sums.{every_pass, every_fail, every_end}
 use Rattle.law.proofs.Table.{row_clean, fault_none}
 use Rattle.law.proofs.Ticks.{tasks_length}
-use Rattle.rows.specs.Said.{Sized}
 use Rattle.rows.proofs.Words.{row_read, task_read}
 use Rattle.dispatch.proofs.well.rows_well.Invariants.{Testing}
 use Rattle.dispatch.proofs.well.rows_well.Goals.{After-row_well}

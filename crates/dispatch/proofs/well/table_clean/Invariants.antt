@@ -1,19 +1,12 @@
 -- `dispatch::well::table_clean` meets its contract: no row passed has a fault.
-use mathlib.Core.Bool.{Bool, true, false, not}
+use mathlib.Core.Bool.{Bool, not}
 use mathlib.Core.List.{List}
-use mathlib.Core.Path.{◌≡◌, sym, ap, ◌∙◌}
 use Prim.Native.Nat.{ℕ, ◌-◌}
-use native.Mathlib.Omega.{arith}
 use lib.Dec.{eqb}
-use borrow.Author.Rules.{rules}
-use borrow.Author.Tests.{eq-eqb, ne_eqb}
-use Rattle.law.specs.Sums.{first}
-use Rattle.law.specs.Table.{Task, row, fault_of, row_fault, faulty}
+use Rattle.law.specs.Table.{row_fault}
 use Rattle.law.specs.State.{state_of, tasks_of}
-use Rattle.law.proofs.First.{Searched, searched_start, searched_hit, searched_next, searched_end}
-use Rattle.law.proofs.Ticks.{tasks_length}
+use Rattle.law.proofs.First.{Searched}
 use Rattle.rows.specs.Said.{Sized}
-use Rattle.rows.proofs.Words.{task_read}
 use Rattle.dispatch.proofs.well.table_clean.Given as goal
 
 unfoldable pub fault : List ℕ → ℕ → Bool

@@ -3,14 +3,13 @@ use mathlib.Core.Path.{◌≡◌, sym, ap, ◌∙◌}
 use Prim.Native.Nat.{ℕ, ◌+◌, ◌^◌, ◌<◌, ◌≤◌}
 use native.Mathlib.Omega.{arith}
 use lib.Dec.{ltb, eqb}
-use borrow.Author.Tests.{ltb-true, not-true, not-false}
+use borrow.Author.Tests.{ltb-true}
 use Rattle.law.specs.Sums.{bit}
 use Rattle.law.specs.Tick.{Tally, live}
 use Rattle.law.specs.State.{settled_counts}
 use Rattle.tally.specs.Said.{tally_said}
 use Rattle.rows.specs.Said.{row_said}
 use Rattle.dispatch.proofs.Tests.{released_off, balance_off, broken_off, window_off, tally_on}
-use borrow.Author.Rules.{rules}
 use Rattle.dispatch.proofs.well.tally_well.Goals.{After-one, After-window_fits}
 use Rattle.dispatch.proofs.well.tally_well.Goals as goal
 

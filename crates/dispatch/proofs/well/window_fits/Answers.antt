@@ -1,6 +1,5 @@
 -- `dispatch::well::window_fits` meets its contract: nothing is left of the window above bit k.
 use Rattle.dispatch.proofs.Tests.{window_test}
-use borrow.Author.Rules.{rules}
 use Rattle.dispatch.proofs.well.window_fits.Goals as goal
 
 pub returns : goal.returns

@@ -1,11 +1,11 @@
 -- `text::put::digits_in` meets its contract: one digit is counted for each tenth taken, and the last one.
-use mathlib.Core.List.{List, [], ◌∷◌}
-use mathlib.Core.Path.{◌≡◌, refl, ap, ◌∙◌}
-use Prim.Native.Nat.{ℕ, suc, ◌+◌, ◌-◌, ◌%◌}
+use mathlib.Core.List.{[], ◌∷◌}
+use mathlib.Core.Path.{refl, ap, ◌∙◌}
+use Prim.Native.Nat.{◌+◌, ◌%◌}
 use native.Mathlib.Omega.{arith}
 use lib.ListN.{length}
 use Rattle.law.proofs.TextDecimal.{decimal_ten}
-use Rattle.law.proofs.TextWrite.{Left, left_start, left_next, left_last, left_fits}
+use Rattle.law.proofs.TextWrite.{left_start, left_next, left_last, left_fits}
 use Rattle.line.proofs.put.digits_in.Goals as goal
 
 pub loop-rest-init : goal.loop-rest-init

@@ -1,11 +1,9 @@
 -- `text::put::digits_in` meets its contract: one digit is counted for each tenth taken, and the last one.
-use mathlib.Core.List.{List, [], ◌∷◌}
-use mathlib.Core.Path.{◌≡◌, refl, ap, ◌∙◌}
-use Prim.Native.Nat.{ℕ, suc, ◌+◌, ◌-◌, ◌%◌}
-use native.Mathlib.Omega.{arith}
+use mathlib.Core.List.{List}
+use mathlib.Core.Path.{◌≡◌}
+use Prim.Native.Nat.{ℕ, suc}
 use lib.ListN.{length}
-use Rattle.law.proofs.TextDecimal.{decimal_ten}
-use Rattle.law.proofs.TextWrite.{Left, left_start, left_next, left_last, left_fits}
+use Rattle.law.proofs.TextWrite.{Left}
 use Rattle.line.proofs.put.digits_in.Given as goal
 
 abbrev pub invariant-loop-rest : goal.invariant-loop-rest

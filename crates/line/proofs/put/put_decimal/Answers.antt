@@ -1,11 +1,11 @@
 -- `text::put::put_decimal` meets its contract: the digits that are put stand behind the place of the next one.
 use mathlib.Core.Path.{◌≡◌}
-use Prim.Native.Nat.{◌+◌, ◌-◌}
+use Prim.Native.Nat.{◌+◌}
 use native.Mathlib.Omega.{arith}
-use lib.ListN.{length, length-set}
+use lib.ListN.{length}
 use Rattle.law.specs.Reading.{decimal}
 use Rattle.law.proofs.TextDecimal.{decimal_shortest}
-use Rattle.line.proofs.Pieces.{Filling, filling_start, filling_in, filling_far, filling_next, filling_last}
+use Rattle.line.proofs.Pieces.{filling_start, filling_in, filling_far, filling_next, filling_last}
 use Rattle.line.proofs.put.put_decimal.Goals as goal
 
 pub digits_in-requires : goal.digits_in-requires

@@ -1,11 +1,5 @@
 -- `text::put::put_decimal` meets its contract: the digits that are put stand behind the place of the next one.
-use mathlib.Core.Path.{◌≡◌}
-use Prim.Native.Nat.{◌+◌, ◌-◌}
-use native.Mathlib.Omega.{arith}
-use lib.ListN.{length, length-set}
-use Rattle.law.specs.Reading.{decimal}
-use Rattle.law.proofs.TextDecimal.{decimal_shortest}
-use Rattle.line.proofs.Pieces.{Filling, filling_start, filling_in, filling_far, filling_next, filling_last}
+use Rattle.line.proofs.Pieces.{Filling}
 use Rattle.line.proofs.put.put_decimal.Given as goal
 
 abbrev pub invariant-loop-rest : goal.invariant-loop-rest

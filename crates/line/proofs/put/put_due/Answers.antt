@@ -4,7 +4,6 @@ use mathlib.Core.Path.{◌≡◌, sym, subst}
 use Prim.Native.Nat.{ℕ, ◌+◌, ◌≤◌, ◌<◌}
 use native.Mathlib.Omega.{arith}
 use lib.ListN.{length, get_or}
-use borrow.Author.Rules.{rules}
 use Rattle.law.specs.Text.{row_keys}
 use Rattle.line.specs.Put.{put_at, line_of}
 use Rattle.line.proofs.put.put_due.Goals.{In_default, Start}

@@ -1,8 +1,8 @@
 -- `text::put::put_line` meets its contract: three pieces, each behind the one before.
 use mathlib.Core.Path.{◌≡◌}
-use Prim.Native.Nat.{◌+◌, ◌-◌}
+use Prim.Native.Nat.{◌+◌}
 use native.Mathlib.Omega.{arith}
-use lib.ListN.{length, length-set}
+use lib.ListN.{length}
 use Rattle.law.specs.Reading.{decimal}
 use Rattle.line.specs.Put.{line_of}
 use Rattle.line.proofs.Pieces.{line_length, line_put}

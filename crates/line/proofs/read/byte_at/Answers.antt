@@ -1,8 +1,6 @@
 -- `line::byte_at` meets its contract: inside the text its byte, and past the end 256.
 use mathlib.Core.Path.{sym}
-use native.Mathlib.Omega.{arith}
 use lib.ListN.{get_or-eq_default}
-use borrow.Author.Rules.{rules}
 use Rattle.law.proofs.Lists.{get_d_inside}
 use Rattle.line.proofs.read.byte_at.Goals as goal
 

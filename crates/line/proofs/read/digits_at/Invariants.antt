@@ -1,16 +1,11 @@
 -- `line::digits_at` meets its contract: the loop stands at the first byte that is no digit, or has passed four; and the bytes passed are in the text.
 use mathlib.Core.Bool.{Bool, not}
 use mathlib.Core.List.{List}
-use mathlib.Core.Path.{◌≡◌, sym, ap, ◌∙◌}
 use Prim.Native.Nat.{ℕ, ◌+◌, ◌-◌, ◌≤◌}
-use native.Mathlib.Omega.{arith}
 use lib.ListN.{length}
-use borrow.Author.Rules.{rules}
-use borrow.Author.Tests.{not-false}
 use Rattle.law.specs.Text.{is_digit}
-use Rattle.law.specs.Reading.{byte_at, digits_length}
-use Rattle.law.proofs.First.{Searched, searched_start, searched_hit, searched_next, searched_end}
-use Rattle.law.proofs.TextSteps.{digit_inside}
+use Rattle.law.specs.Reading.{byte_at}
+use Rattle.law.proofs.First.{Searched}
 use Rattle.line.proofs.read.digits_at.Given as goal
 
 abbrev pub other : List ℕ → ℕ → ℕ → Bool

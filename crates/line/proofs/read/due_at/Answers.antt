@@ -5,7 +5,6 @@ use Prim.Native.Nat.{ℕ, suc, ◌≤◌}
 use native.Mathlib.Nat.{le_antisymm}
 use native.Mathlib.Omega.{arith}
 use lib.ListN.{get_or}
-use borrow.Author.Rules.{rules}
 use Rattle.law.specs.Text.{row_keys}
 use Rattle.law.specs.Reading.{line_at}
 use Rattle.line.proofs.read.due_at.Goals as goal

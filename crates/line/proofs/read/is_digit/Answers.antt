@@ -1,5 +1,4 @@
 -- `line::is_digit` meets its contract: a digit is a byte in 48..57.
-use borrow.Author.Rules.{rules}
 use Rattle.law.specs.Text.{is_digit}
 use Rattle.line.proofs.read.is_digit.Goals as goal
 

@@ -1,17 +1,12 @@
 -- `line::keyed_at` meets its contract: the loop stands at the first byte that is not the key's, or behind the key; the bytes passed are in the text.
-use mathlib.Core.Bool.{Bool, not}
-use mathlib.Core.List.{List}
+use mathlib.Core.Bool.{not}
 use mathlib.Core.Path.{sym, ap, ◌∙◌}
-use Prim.Native.Nat.{ℕ, ◌+◌, ◌-◌, ◌≤◌}
+use Prim.Native.Nat.{◌+◌}
 use native.Mathlib.Omega.{arith}
-use lib.Dec.{eqb}
-use lib.ListN.{length, get_or}
-use borrow.Author.Rules.{rules}
 use borrow.Author.Tests.{eq-eqb, ne_eqb}
-use Rattle.law.specs.Reading.{byte_at, key_length}
-use Rattle.law.proofs.First.{Searched, searched_start, searched_hit, searched_next, searched_end}
+use Rattle.law.specs.Reading.{key_length}
+use Rattle.law.proofs.First.{searched_start, searched_hit, searched_next, searched_end}
 use Rattle.law.proofs.TextLine.{inside}
-use Rattle.line.proofs.read.keyed_at.Invariants.{other}
 use Rattle.line.proofs.read.keyed_at.Goals as goal
 
 pub loop-i-init : goal.loop-i-init

@@ -1,16 +1,11 @@
 -- `line::keyed_at` meets its contract: the loop stands at the first byte that is not the key's, or behind the key; the bytes passed are in the text.
 use mathlib.Core.Bool.{Bool, not}
 use mathlib.Core.List.{List}
-use mathlib.Core.Path.{sym, ap, ◌∙◌}
 use Prim.Native.Nat.{ℕ, ◌+◌, ◌-◌, ◌≤◌}
-use native.Mathlib.Omega.{arith}
 use lib.Dec.{eqb}
 use lib.ListN.{length, get_or}
-use borrow.Author.Rules.{rules}
-use borrow.Author.Tests.{eq-eqb, ne_eqb}
-use Rattle.law.specs.Reading.{byte_at, key_length}
-use Rattle.law.proofs.First.{Searched, searched_start, searched_hit, searched_next, searched_end}
-use Rattle.law.proofs.TextLine.{inside}
+use Rattle.law.specs.Reading.{byte_at}
+use Rattle.law.proofs.First.{Searched}
 use Rattle.line.proofs.read.keyed_at.Given as goal
 
 abbrev pub other : List ℕ → ℕ → List ℕ → ℕ → Bool

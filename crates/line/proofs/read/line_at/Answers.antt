@@ -2,7 +2,6 @@
 use mathlib.Core.Path.{sym, ap, ◌∙◌}
 use Prim.Native.Nat.{ℕ, ◌+◌}
 use native.Mathlib.Omega.{arith}
-use borrow.Author.Rules.{rules}
 use Rattle.law.specs.Reading.{value_at}
 use Rattle.law.proofs.TextLine.{key_high, line_cut, line_on}
 use Rattle.line.proofs.read.line_at.Goals as goal

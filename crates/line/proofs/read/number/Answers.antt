@@ -5,9 +5,8 @@ use Prim.Native.Nat.{ℕ, ◌+◌, ◌-◌, ◌*◌, ◌≤◌, ◌<◌}
 use native.Mathlib.Numerals.{add-one}
 use native.Mathlib.Omega.{arith}
 use lib.ListN.{length, take, drop}
-use borrow.Author.Rules.{rules}
 use Rattle.law.specs.Text.{number_from, number_of}
-use Rattle.law.specs.Reading.{byte_at, value_length}
+use Rattle.law.specs.Reading.{byte_at}
 use Rattle.law.proofs.TextDecimal.{digit_low, digit_high}
 use Rattle.law.proofs.TextSteps.{digit_inside, value_digit, value_most, number_next, number_small}
 use Rattle.line.proofs.read.number.Invariants.{Summed}

@@ -1,15 +1,10 @@
 -- `line::number` meets its contract: the number so far is that of the digits passed, and stays below 100000.
 use mathlib.Core.List.{List}
-use mathlib.Core.Path.{◌≡◌, refl, ap, ◌∙◌}
-use Prim.Native.Nat.{ℕ, ◌+◌, ◌-◌, ◌*◌, ◌≤◌, ◌<◌}
-use native.Mathlib.Numerals.{add-one}
-use native.Mathlib.Omega.{arith}
-use lib.ListN.{length, take, drop}
-use borrow.Author.Rules.{rules}
-use Rattle.law.specs.Text.{number_from, number_of}
-use Rattle.law.specs.Reading.{byte_at, value_length}
-use Rattle.law.proofs.TextDecimal.{digit_low, digit_high}
-use Rattle.law.proofs.TextSteps.{digit_inside, value_digit, value_most, number_next, number_small}
+use mathlib.Core.Path.{◌≡◌}
+use Prim.Native.Nat.{ℕ, ◌-◌, ◌≤◌}
+use lib.ListN.{take, drop}
+use Rattle.law.specs.Text.{number_of}
+use Rattle.law.specs.Reading.{value_length}
 use Rattle.line.proofs.read.number.Given as goal
 
 pub record Summed (text : List ℕ) (at n v i : ℕ) : Type 0 where

@@ -5,7 +5,6 @@ use Prim.Native.Nat.{ℕ, ◌+◌}
 use native.Mathlib.Numerals.{add-one}
 use native.Mathlib.Omega.{arith}
 use lib.ListN.{take, drop}
-use borrow.Author.Rules.{rules}
 use Rattle.law.specs.Text.{number_of}
 use Rattle.law.specs.Reading.{found}
 use Rattle.law.proofs.TextLine.{inside}

@@ -5,8 +5,7 @@ use Prim.Native.Nat.{◌+◌}
 use native.Mathlib.Numerals.{add-one}
 use native.Mathlib.Omega.{arith}
 use lib.Dec.{eqb}
-use borrow.Author.Rules.{rules}
-use borrow.Author.Tests.{eq-eqb, ne_eqb, not-true, not-false}
+use borrow.Author.Tests.{eq-eqb, ne_eqb}
 use Rattle.law.specs.Text.{is_digit}
 use Rattle.law.specs.Reading.{byte_at, digits_length, value_length}
 use Rattle.law.proofs.TextLine.{digits_high}

@@ -1,7 +1,6 @@
 -- `line::refused::printed_place` meets its contract: number 12 is moved, every other stays.
 use mathlib.Core.Path.{sym, ap, ◌∙◌}
 use Prim.Native.Nat.{ℕ, ◌+◌}
-use borrow.Author.Rules.{rules}
 use Rattle.refusal.specs.Shown.{number_of, also_of}
 use Rattle.line.proofs.Placed.{place_twelve, place_other}
 use Rattle.line.proofs.refused.printed_place.Goals as goal

@@ -5,7 +5,6 @@ use mathlib.Core.Path.{◌≡◌, refl, sym, ap, ◌∙◌}
 use Prim.Native.Nat.{ℕ}
 use native.Mathlib.Omega.{arith}
 use lib.ListN.{length}
-use borrow.Author.Rules.{rules}
 use Rattle.law.specs.Refusal.{head}
 use Rattle.law.proofs.Tests.{never_both}
 use Rattle.law.specs.Report.{refused_key, at_key, number_lines, refusal_printed, placed}

@@ -1,20 +1,11 @@
 -- `replay::step::due_rows` meets its contract: of the rows passed, those with wait 0 are counted.
 use mathlib.Core.List.{List}
-use mathlib.Core.Path.{◌≡◌, sym, ap, ◌∙◌}
-use Prim.Native.Nat.{ℕ, ◌+◌, ◌-◌, ◌≤◌, ◌<◌}
-use native.Mathlib.Numerals.{add-one}
-use native.Mathlib.Omega.{arith}
-use lib.Dec.{eqb}
+use mathlib.Core.Path.{◌≡◌}
+use Prim.Native.Nat.{ℕ, ◌-◌, ◌≤◌}
 use lib.ListN.{length}
-use borrow.Author.Rules.{rules}
-use Rattle.law.specs.Sums.{bit}
-use Rattle.law.specs.Tick.{core_at, due as is_due}
 use Rattle.law.specs.Replay.{releases}
 use Rattle.law.specs.State.{state_of}
-use Rattle.law.proofs.Replay.{releases_none, releases_next, releases_most}
 use Rattle.rows.specs.Said.{Laid}
-use Rattle.rows.proofs.Words.{words_long}
-use Rattle.replay.proofs.Read.{wait_read}
 use Rattle.replay.proofs.step.due_rows.Given as goal
 
 pub record Counted (words : List ℕ) (rows due i : ℕ) : Type 0 where

@@ -12,13 +12,12 @@ use Rattle.law.specs.Table.{word_of}
 use Rattle.law.specs.Tick.{Core, Row, no_row, core_at, due, release_row, release_all, begin}
 use Rattle.law.specs.State.{state_of, laid, with_row}
 use Rattle.law.specs.Replay.{unfit, Replay, place_of, logged, used_then, out_of_range, bad_row, is_bad}
-use Rattle.law.specs.Sound.{SoundState, SoundRow}
-use Rattle.law.proofs.First.{Searched, searched_start, searched_hit, searched_next, searched_end}
+use Rattle.law.specs.Sound.{SoundRow}
+use Rattle.law.proofs.First.{searched_start, searched_hit, searched_next, searched_end}
 use Rattle.law.proofs.Tests.{never_both}
 use Rattle.law.proofs.Replay.{releases_none, releases_next, releases_more}
-use Rattle.rows.specs.Said.{Timed, Fetched}
-use Rattle.rows.proofs.Words.{words_long}
-use Rattle.tick.proofs.Loops.{Mapped, mapped_start, mapped_laid, mapped_rows, mapped_row, mapped_next, mapped_end}
+use Rattle.rows.specs.Said.{Timed}
+use Rattle.tick.proofs.Loops.{mapped_start, mapped_laid, mapped_rows, mapped_row, mapped_next, mapped_end}
 use Rattle.replay.specs.Shown.{under}
 use Rattle.replay.proofs.step.release_logged.Invariants.{Going}
 use Rattle.replay.proofs.step.release_logged.Goals as goal

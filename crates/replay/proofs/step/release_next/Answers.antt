@@ -4,14 +4,12 @@ use mathlib.Core.Path.{◌≡◌, refl, sym, ap, ◌∙◌}
 use Prim.Native.Nat.{ℕ}
 use native.Mathlib.Omega.{arith}
 use lib.ListN.{get_or}
-use borrow.Author.Tests.{not-true, not-false}
 use Rattle.law.specs.Refusal.{within}
 use Rattle.law.specs.Tick.{no_row, core_at}
 use Rattle.law.specs.State.{state_of}
 use Rattle.rows.proofs.Cases.{waits_on}
 use Rattle.rows.proofs.Words.{words_long, row_kept}
 use Rattle.replay.proofs.Read.{wait_read, c_read, fits_waiting, unfit_due, due_bit, waiting_bit}
-use borrow.Author.Rules.{rules}
 use Rattle.replay.proofs.step.release_next.Goals.{After-is_within, After-word, Else-word-ne0}
 use Rattle.replay.proofs.step.release_next.Goals as goal
 

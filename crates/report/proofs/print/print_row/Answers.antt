@@ -3,10 +3,9 @@ use mathlib.Core.List.{List, [], ◌∷◌}
 use Prim.Native.Nat.{ℕ, ◌≤◌}
 use native.Mathlib.Omega.{arith}
 use lib.ListN.{get_or, take}
-use borrow.Author.Rules.{rules}
 use Rattle.law.specs.Report.{printed_keys}
 use Rattle.dispatch.specs.Shown.{counts_said}
-use Rattle.line.proofs.Chain.{Lined, lined_none, lined_long, lined_fits, lined_next}
+use Rattle.line.proofs.Chain.{Lined, lined_none, lined_fits, lined_next}
 use Rattle.report.proofs.Numbers.{small_at}
 use Rattle.report.proofs.print.print_row.Goals.{After-put_line, After-put_line-next, After-put_line-next-10, After-put_line-next-2, After-put_line-next-3, After-put_line-next-4, After-put_line-next-5, After-put_line-next-6, After-put_line-next-7, After-put_line-next-8, After-put_line-next-9, Start}
 use Rattle.report.proofs.print.print_row.Goals as goal

@@ -4,7 +4,6 @@ use mathlib.Core.Path.{◌≡◌, sym, ap, ◌∙◌, subst}
 use Prim.Native.Nat.{ℕ, ◌+◌, ◌≤◌}
 use native.Mathlib.Omega.{arith}
 use lib.ListN.{length, get_or}
-use borrow.Author.Rules.{rules}
 use Rattle.law.specs.Table.{table_of}
 use Rattle.law.specs.Tick.{State, clock_end, run, fresh}
 use Rattle.law.specs.Report.{ticks_key, idle_key, verdict_printed, rows_printed, run_printed}

@@ -1,10 +1,9 @@
 -- `report::print::print_verdict` meets its contract: the two answers of the verdict, and the times as it left them.
 use mathlib.Core.List.{List, [], ◌∷◌, ◌++◌}
 use mathlib.Core.Path.{◌≡◌, refl, sym, ap, ◌∙◌, subst}
-use Prim.Native.Nat.{ℕ, ◌+◌}
+use Prim.Native.Nat.{ℕ}
 use native.Mathlib.Omega.{arith}
 use lib.ListN.{length, replicate, length-append}
-use borrow.Author.Rules.{rules}
 use Rattle.law.specs.Refusal.{head}
 use Rattle.law.specs.Table.{table_of}
 use Rattle.law.specs.Text.{lines}

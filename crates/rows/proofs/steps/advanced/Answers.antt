@@ -2,7 +2,6 @@
 use mathlib.Core.Path.{refl, sym, ◌∙◌}
 use Rattle.rows.specs.Said.{row_said}
 use Rattle.rows.proofs.Cases.{is_running, is_resting, rests, finishes, misses, goes_on_lem}
-use borrow.Author.Rules.{rules}
 use Rattle.rows.proofs.steps.advanced.Goals as goal
 
 pub returns-then-r-eq0 : goal.returns-then-r-eq0

@@ -1,6 +1,5 @@
 -- `rows::steps::closed` meets its contract: the tally as the settling routine left it.
 use Rattle.table.specs.Said.{task_said}
-use borrow.Author.Rules.{rules}
 use Rattle.rows.proofs.steps.closed.Goals as goal
 
 pub returns : goal.returns

@@ -1,7 +1,6 @@
 -- `rows::steps::kind_at` meets its contract: the bit as a number.
 use mathlib.Core.Path.{ap, sym, ◌∙◌}
 use Rattle.law.specs.Sums.{bit}
-use borrow.Author.Rules.{rules}
 use Rattle.rows.proofs.steps.kind_at.Goals as goal
 
 pub returns-then-bit_at : goal.returns-then-bit_at

@@ -1,7 +1,6 @@
 -- `rows::steps::next_place` meets its contract: the test is the law's.
 use borrow.Author.Tests.{eq-eqb, ne_eqb}
 use Rattle.law.specs.Tick.{next_place}
-use borrow.Author.Rules.{rules}
 use Rattle.rows.proofs.steps.next_place.Goals as goal
 
 pub returns-then-next-task : goal.returns-then-next-task

@@ -7,7 +7,6 @@ use Rattle.law.proofs.Sound.{due_yes}
 use Rattle.table.specs.Said.{task_said}
 use Rattle.rows.specs.Said.{row_said}
 use Rattle.rows.proofs.Cases.{kind_tells}
-use borrow.Author.Rules.{rules}
 use Rattle.rows.proofs.steps.released.Goals as goal
 
 pub returns : goal.returns

@@ -1,7 +1,5 @@
 -- `rows::steps::worked` meets its contract: one unit less where chosen.
-use Prim.Native.Nat.{◌-◌}
 use native.Mathlib.Omega.{arith}
-use borrow.Author.Rules.{rules}
 use Rattle.rows.proofs.steps.worked.Goals as goal
 
 pub returns-then-chosen : goal.returns-then-chosen

@@ -5,7 +5,6 @@ use Prim.Native.Nat.{ℕ, ◌*◌, ◌≤◌, ◌<◌}
 use native.Mathlib.Omega.{arith}
 use lib.ListN.{length, take, drop}
 use lib.Seq.{length-take-le}
-use borrow.Author.Rules.{rules}
 use Rattle.law.specs.Refusal.{accepted}
 use Rattle.law.specs.Table.{table_of, rows_checked, checked}
 use Rattle.law.specs.Text.{row_keys}
@@ -94,5 +93,8 @@ returns c =
     let words = words_read row_keys (text (goal.at.returns c).In-Rows) in
     let enough : length words ≤ length (room (goal.at.returns c).In-Rows) = omega (arith, (trip (goal.at.returns c).In-Rows).whole, c.if-room-n.false) in
     let e = read_accepted (text (goal.at.returns c).In-Rows) (length (room (goal.at.returns c).In-Rows)) (lines (goal.at.returns c).In-Rows) (good (goal.at.returns c).In-Rows-check) enough in
-    let many : rows (goal.at.returns c).In-Rows ≡ length (table_of words) = omega (arith, table_length words, (trip (goal.at.returns c).In-Rows).whole) in record { answer = ap (λ (n : ℕ). accepted (n ∷ [])) many ∙ sym e; room = c.lay.ensures ∙ ap (λ (ws : List ℕ). ws ++ drop (rows (goal.at.returns c).In-Rows * 7) (room (goal.at.returns c).In-Rows)) (words_are (goal.at.returns c).In-Rows)
-          ∙ ap (λ (n : ℕ). words ++ drop n (room (goal.at.returns c).In-Rows)) (sym (trip (goal.at.returns c).In-Rows).whole) ∙ sym (read_filled (text (goal.at.returns c).In-Rows) (room (goal.at.returns c).In-Rows) e) }
+    let many : rows (goal.at.returns c).In-Rows ≡ length (table_of words) = omega (arith, table_length words, (trip (goal.at.returns c).In-Rows).whole) in record {
+      answer = ap (λ (n : ℕ). accepted (n ∷ [])) many ∙ sym e;
+      room = c.lay.ensures ∙ ap (λ (ws : List ℕ). ws ++ drop (rows (goal.at.returns c).In-Rows * 7) (room (goal.at.returns c).In-Rows)) (words_are (goal.at.returns c).In-Rows)
+          ∙ ap (λ (n : ℕ). words ++ drop n (room (goal.at.returns c).In-Rows)) (sym (trip (goal.at.returns c).In-Rows).whole) ∙ sym (read_filled (text (goal.at.returns c).In-Rows) (room (goal.at.returns c).In-Rows) e);
+    }

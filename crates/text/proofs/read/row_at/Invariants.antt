@@ -1,17 +1,10 @@
 -- `read::row_at` meets its contract: the words of the lines read so far stand in the row, the lines of the keys that are left come behind them.
-use mathlib.Core.List.{List, [], ◌∷◌, ◌++◌}
-use mathlib.Core.Path.{◌≡◌, refl, sym, ap, ◌∙◌}
-use Prim.Native.Nat.{ℕ, suc, ◌+◌, ◌-◌, ◌*◌, ◌≤◌, ◌<◌}
-use native.Mathlib.Numerals.{add-one}
-use native.Mathlib.Omega.{arith}
-use lib.ListN.{length, get_or, take, drop, set, length-set, length-drop, drop_of_length-le}
-use lib.Seq.{length-take-le, get_or-take, drop-cons, drop-set-add, take-suc-set, take-set-le}
-use borrow.Author.Rules.{rules}
+use mathlib.Core.List.{List}
+use mathlib.Core.Path.{◌≡◌}
+use Prim.Native.Nat.{ℕ, ◌-◌, ◌*◌, ◌≤◌, ◌<◌}
+use lib.ListN.{length, take, drop}
 use Rattle.law.specs.Text.{row_keys}
-use Rattle.law.specs.Reading.{found, fault, line_at}
-use Rattle.law.proofs.Relaid.{in_rows}
-use Rattle.law.proofs.TextSteps.{ReadSo, so_start, so_next, so_fault, so_all, line_small}
-use Rattle.line.specs.Said.{said, place_of}
+use Rattle.law.proofs.TextSteps.{ReadSo}
 use Rattle.text.proofs.read.row_at.Given as goal
 
 pub record Reading (text : List ℕ) (from : ℕ) (old : List ℕ) (row width : ℕ) (words : List ℕ) (at j : ℕ) : Type 0 where

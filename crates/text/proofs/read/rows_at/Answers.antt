@@ -1,13 +1,12 @@
 -- `read::rows_at` meets its contract: the words of the rows read so far stand at the start, the lines of the rows that are left come behind them.
 use mathlib.Core.List.{List, [], ◌++◌}
 use mathlib.Core.Path.{◌≡◌, refl, sym, ap, ◌∙◌}
-use Prim.Native.Nat.{ℕ, suc, ◌+◌, ◌-◌, ◌*◌, ◌≤◌, ◌<◌}
+use Prim.Native.Nat.{ℕ, suc, ◌+◌, ◌-◌, ◌*◌, ◌<◌}
 use native.Mathlib.Nat.{sub-zero, zero-mul, suc-mul}
 use native.Mathlib.Numerals.{add-one}
 use native.Mathlib.Omega.{arith}
 use lib.ListN.{length, take, drop}
 use lib.Seq.{take-add}
-use borrow.Author.Rules.{rules}
 use Rattle.law.specs.Text.{row_keys, keys_of}
 use Rattle.law.specs.Reading.{found, lines_at}
 use Rattle.law.proofs.TextSteps.{ReadSo, so_start, so_more, so_broken, so_all, keys_more}

@@ -1,17 +1,10 @@
 -- `read::rows_at` meets its contract: the words of the rows read so far stand at the start, the lines of the rows that are left come behind them.
-use mathlib.Core.List.{List, [], ◌++◌}
-use mathlib.Core.Path.{◌≡◌, refl, sym, ap, ◌∙◌}
-use Prim.Native.Nat.{ℕ, suc, ◌+◌, ◌-◌, ◌*◌, ◌≤◌, ◌<◌}
-use native.Mathlib.Nat.{sub-zero, zero-mul, suc-mul}
-use native.Mathlib.Numerals.{add-one}
-use native.Mathlib.Omega.{arith}
-use lib.ListN.{length, take, drop}
-use lib.Seq.{take-add}
-use borrow.Author.Rules.{rules}
+use mathlib.Core.List.{List}
+use mathlib.Core.Path.{◌≡◌}
+use Prim.Native.Nat.{ℕ, ◌-◌, ◌*◌, ◌≤◌}
+use lib.ListN.{length, take}
 use Rattle.law.specs.Text.{row_keys, keys_of}
-use Rattle.law.specs.Reading.{found, lines_at}
-use Rattle.law.proofs.TextSteps.{ReadSo, so_start, so_more, so_broken, so_all, keys_more}
-use Rattle.text.proofs.Ends.{ends}
+use Rattle.law.proofs.TextSteps.{ReadSo}
 use Rattle.text.proofs.read.rows_at.Given as goal
 
 pub record Reading (text : List ℕ) (from rows width : ℕ) (words : List ℕ) (at i : ℕ) : Type 0 where

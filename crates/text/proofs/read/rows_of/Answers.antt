@@ -4,7 +4,6 @@ use mathlib.Core.Path.{◌≡◌, refl, sym, ap, ◌∙◌}
 use Prim.Native.Nat.{ℕ, ◌*◌, ◌≤◌}
 use native.Mathlib.Omega.{arith}
 use lib.ListN.{take}
-use borrow.Author.Rules.{rules}
 use Rattle.law.specs.Refusal.{refused}
 use Rattle.law.specs.Text.{rows_key, row_keys}
 use Rattle.law.specs.Reading.{found, line_at}

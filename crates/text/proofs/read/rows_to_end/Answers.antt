@@ -3,7 +3,6 @@ use mathlib.Core.List.{List}
 use mathlib.Core.Path.{sym, ◌∙◌}
 use Prim.Native.Nat.{ℕ, ◌*◌}
 use lib.ListN.{take}
-use borrow.Author.Rules.{rules}
 use Rattle.law.specs.Text.{row_keys}
 use Rattle.law.proofs.TextPlace.{rows_cut, rows_end, rows_more}
 use Rattle.text.proofs.Ends.{ends}

@@ -3,7 +3,6 @@ use mathlib.Core.Path.{sym, ap, ◌∙◌}
 use Prim.Native.Nat.{ℕ, ◌%◌}
 use native.Mathlib.Nat.{mod_self, mod-eq_of_lt}
 use native.Mathlib.Omega.{arith}
-use borrow.Author.Rules.{rules}
 use Rattle.text.proofs.write.next_line.Goals as goal
 
 pub returns-then-j-width : goal.returns-then-j-width

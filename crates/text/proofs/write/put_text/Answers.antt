@@ -1,13 +1,13 @@
 -- `text::write::put_text` meets its contract: the lines so far stand from the start of the run on.
 use mathlib.Core.List.{List, []}
-use mathlib.Core.Path.{◌≡◌, refl, sym, ap, ◌∙◌}
-use Prim.Native.Nat.{ℕ, ◌+◌, ◌-◌, ◌*◌, ◌%◌, ◌≤◌}
+use mathlib.Core.Path.{◌≡◌, sym, ap, ◌∙◌}
+use Prim.Native.Nat.{ℕ, ◌+◌, ◌*◌, ◌%◌, ◌≤◌}
 use native.Mathlib.Omega.{arith}
 use lib.ListN.{length, get_or, take}
 use lib.Seq.{length-take-le, get_or-take}
 use Rattle.law.specs.Text.{row_keys}
 use Rattle.line.specs.Put.{put_at, line_of}
-use Rattle.text.proofs.Lines.{Behind, First, behind_start, first_fits, in_keys, behind_long, due_fits, behind_next, behind_all}
+use Rattle.text.proofs.Lines.{First, behind_start, first_fits, in_keys, due_fits, behind_next, behind_all}
 use Rattle.text.proofs.write.put_text.Goals.{After-slice_known-2-1, In-loop-l}
 use Rattle.text.proofs.write.put_text.Goals as goal
 
@@ -33,14 +33,18 @@ first c =
 due-key : (c : In-loop-l) → get_or (take c.args.width row_keys) c.loop-l.j [] ≡ get_or row_keys c.loop-l.j []
 due-key c =
     let l = c.loop-l in
-    get_or-take c.args.width row_keys l.j [] (omega (arith, in_keys (let long = keys-long c.args.width c.requires.3 in
-    record {
-      some = omega (arith, long, c.requires.2);
-      whole = c.requires.0 ∙ ap (λ (z : ℕ). c.args.rows * z) (sym long);
-      next = c.put_line-at.ensures.place;
-      bytes = c.put_line-at.ensures.bytes;
-      fits = c.requires.4;
-    }) l.invariant, keys-long c.args.width c.requires.3))
+    get_or-take c.args.width row_keys l.j [] (omega (
+      arith,
+      in_keys (let long = keys-long c.args.width c.requires.3 in
+          record {
+            some = omega (arith, long, c.requires.2);
+            whole = c.requires.0 ∙ ap (λ (z : ℕ). c.args.rows * z) (sym long);
+            next = c.put_line-at.ensures.place;
+            bytes = c.put_line-at.ensures.bytes;
+            fits = c.requires.4;
+          }) l.invariant,
+      keys-long c.args.width c.requires.3,
+    ))
 
 pub put_line-at-requires : goal.put_line-at-requires
 put_line-at-requires c =

@@ -4,7 +4,6 @@ use mathlib.Core.Path.{◌≡◌, sym, ap, ◌∙◌}
 use Prim.Native.Nat.{ℕ, ◌≤◌}
 use native.Mathlib.Omega.{arith}
 use lib.ListN.{length, take, drop}
-use borrow.Author.Rules.{rules}
 use Rattle.law.specs.Refusal.{accepted}
 use Rattle.law.specs.Text.{row_keys}
 use Rattle.law.specs.Reading.{text_of}
@@ -39,5 +38,8 @@ put_bytes-requires c =
 pub returns : goal.returns
 returns c =
     let fits : length (text (goal.at.returns c).After-put_text-n) ≤ length (room (goal.at.returns c).After-put_text-n) = omega (arith, (made (goal.at.returns c).After-put_text-n).0, c.if-room-n.false) in
-    let e = put_accepted (text (goal.at.returns c).After-put_text-n) (length (room (goal.at.returns c).After-put_text-n)) fits in record { answer = ap (λ (z : ℕ). accepted (z ∷ [])) (made (goal.at.returns c).After-put_text-n).0 ∙ sym e; room = c.put_bytes.ensures.bytes ∙ put_front (room (goal.at.returns c).After-put_text-n) _ ∙ ap (λ (z : List ℕ). z ++ drop (length z) (room (goal.at.returns c).After-put_text-n)) (made (goal.at.returns c).After-put_text-n).1
-          ∙ sym (put_filled (text (goal.at.returns c).After-put_text-n) (room (goal.at.returns c).After-put_text-n) e) }
+    let e = put_accepted (text (goal.at.returns c).After-put_text-n) (length (room (goal.at.returns c).After-put_text-n)) fits in record {
+      answer = ap (λ (z : ℕ). accepted (z ∷ [])) (made (goal.at.returns c).After-put_text-n).0 ∙ sym e;
+      room = c.put_bytes.ensures.bytes ∙ put_front (room (goal.at.returns c).After-put_text-n) _ ∙ ap (λ (z : List ℕ). z ++ drop (length z) (room (goal.at.returns c).After-put_text-n)) (made (goal.at.returns c).After-put_text-n).1
+          ∙ sym (put_filled (text (goal.at.returns c).After-put_text-n) (room (goal.at.returns c).After-put_text-n) e);
+    }

@@ -1,17 +1,14 @@
 -- `tick::patterns::fetch` meets its contract: each row passed has its pattern word.
 use mathlib.Core.List.{List}
 use mathlib.Core.Path.{◌≡◌, refl, sym, ap, ◌∙◌}
-use Prim.Native.Nat.{ℕ, ◌+◌, ◌-◌, ◌≤◌, ◌<◌}
+use Prim.Native.Nat.{ℕ, ◌+◌, ◌≤◌, ◌<◌}
 use native.Mathlib.Decide.{dec_lt}
 use native.Mathlib.Nat.{ne_of_lt}
 use native.Mathlib.Omega.{arith}
-use lib.ListN.{length, get_or, set, length-set}
+use lib.ListN.{get_or, set, length-set}
 use lib.Seq.{get_or-set_same, get_or-set_other}
-use Rattle.law.specs.Table.{word_of}
-use Rattle.law.specs.Tick.{core_at}
 use Rattle.law.specs.State.{state_of}
-use Rattle.rows.specs.Said.{Held, Fetched}
-use borrow.Author.Rules.{rules}
+use Rattle.rows.specs.Said.{Fetched}
 use Rattle.tick.proofs.patterns.fetch.Invariants.{ownWord, Fetching}
 use Rattle.tick.proofs.patterns.fetch.Goals as goal
 
