@@ -55,3 +55,75 @@ pub fn tell<O: Write, E: Write>(
         Err(_) => error.write_all(b"not written whole\n"),
     }
 }
+
+#[cfg(test)]
+mod tests {
+    use super::*;
+    use refusal::Refusal;
+
+    // Takes so many bytes, and then no more.
+    #[derive(Drop)]
+    struct Full(usize);
+
+    impl Write for Full {
+        fn write(&mut self, bytes: &[u8]) -> io::Result<usize> {
+            if self.0 == 0 {
+                return Err(io::Error::from(io::ErrorKind::StorageFull));
+            }
+            let n = bytes.len().min(self.0);
+            self.0 -= n;
+            Ok(n)
+        }
+
+        fn flush(&mut self) -> io::Result<()> {
+            Ok(())
+        }
+    }
+
+    #[test]
+    fn tells_a_text(rt: HostRuntime) -> io::Result<()> {
+        let mut out = Vec::new(rt.alloc());
+        let mut error = Vec::new(rt.alloc());
+        tell(Written::Length(3), b"abcd", &mut out, &mut error)?;
+        assert_eq!(rt; out.as_slice(), b"abc".as_slice());
+        assert_eq!(rt; error.as_slice(), b"".as_slice());
+        Ok(())
+    }
+
+    #[test]
+    fn tells_a_refusal(rt: HostRuntime) -> io::Result<()> {
+        let mut out = Vec::new(rt.alloc());
+        let mut error = Vec::new(rt.alloc());
+        tell(
+            Written::Refused(Refusal::NotOld(2)),
+            b"abcd",
+            &mut out,
+            &mut error,
+        )?;
+        assert_eq!(rt; out.as_slice(), b"".as_slice());
+        assert_eq!(rt; error.as_slice(), b"refused=17\nat=2\n".as_slice());
+        Ok(())
+    }
+
+    #[test]
+    fn tells_that_a_text_was_not_written_whole(rt: HostRuntime) -> io::Result<()> {
+        let mut error = Vec::new(rt.alloc());
+        tell(Written::Length(3), b"abcd", &mut Full(2), &mut error)?;
+        assert_eq!(rt; error.as_slice(), b"not written whole\n".as_slice());
+        Ok(())
+    }
+
+    #[test]
+    fn fails_where_nothing_can_be_told(rt: HostRuntime) {
+        let mut out = Full(9);
+        assert!(rt;
+            tell(
+                Written::Refused(Refusal::NoRows),
+                b"",
+                &mut out,
+                &mut Full(4)
+            )
+            .is_err()
+        );
+    }
+}

@@ -76,5 +76,9 @@ fn answer_input<R: Read, W: Write>(input: &mut R, out: &mut W, room: &mut [u8]) 
 
 fn main(rt: HostRuntime) -> io::Result<()> {
     let mut room = large_room();
-    answer_input(&mut StandardInput::new(rt.stdin()), &mut rt.stdout(), &mut room)
+    answer_input(
+        &mut StandardInput::new(rt.stdin()),
+        &mut rt.stdout(),
+        &mut room,
+    )
 }

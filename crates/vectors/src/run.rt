@@ -56,7 +56,12 @@ fn well_shown<W: Write>(out: &mut W, state: &[u64]) -> io::Result<()> {
     }
 }
 
-fn damaged_in<W: Write>(out: &mut W, case: &[u64], table: &[u32], state: &mut [u64]) -> io::Result<()> {
+fn damaged_in<W: Write>(
+    out: &mut W,
+    case: &[u64],
+    table: &[u32],
+    state: &mut [u64],
+) -> io::Result<()> {
     begin(out, case, table, state)?;
     well_shown(out, state)?;
     show::ran(out, tick_words(state))?;
@@ -74,7 +79,13 @@ pub(crate) fn damaged<W: Write>(out: &mut W, case: &[u64]) -> io::Result<()> {
     damaged_in(out, case, &table[..n], &mut state[..length])
 }
 
-fn counts_in<W: Write>(out: &mut W, case: &[u64], table: &[u32], state: &mut [u64], room: &mut [u64]) -> io::Result<()> {
+fn counts_in<W: Write>(
+    out: &mut W,
+    case: &[u64],
+    table: &[u32],
+    state: &mut [u64],
+    room: &mut [u64],
+) -> io::Result<()> {
     begin(out, case, table, state)?;
     show::ran(out, counts_words(state, low_at(case, 5), room))?;
     show::wide_words(out, room)
@@ -89,10 +100,21 @@ pub(crate) fn counts<W: Write>(out: &mut W, case: &[u64]) -> io::Result<()> {
     let n = words_of(case, 7, &mut table);
     let length = wide_part_of(case, 1, &state);
     let words = wide_part_of(case, 6, &room);
-    counts_in(out, case, &table[..n], &mut state[..length], &mut room[..words])
+    counts_in(
+        out,
+        case,
+        &table[..n],
+        &mut state[..length],
+        &mut room[..words],
+    )
 }
 
-fn held_in<W: Write>(out: &mut W, case: &[u64], table: &[u32], state: &mut [u64]) -> io::Result<()> {
+fn held_in<W: Write>(
+    out: &mut W,
+    case: &[u64],
+    table: &[u32],
+    state: &mut [u64],
+) -> io::Result<()> {
     begin(out, case, table, state)?;
     match held_words(state, low_at(case, 5)) {
         Marks::Held(marks) => show::accepted(out, marks),
@@ -110,7 +132,13 @@ pub(crate) fn held<W: Write>(out: &mut W, case: &[u64]) -> io::Result<()> {
     held_in(out, case, &table[..n], &mut state[..length])
 }
 
-fn replay_in<W: Write>(out: &mut W, case: &[u64], table: &[u32], log: &[u32], state: &mut [u64]) -> io::Result<()> {
+fn replay_in<W: Write>(
+    out: &mut W,
+    case: &[u64],
+    table: &[u32],
+    log: &[u32],
+    state: &mut [u64],
+) -> io::Result<()> {
     begin(out, case, table, state)?;
     show::replayed(out, replay_words(state, low_at(case, 5), log))?;
     show::state(out, state)
