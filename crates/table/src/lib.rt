@@ -56,6 +56,7 @@ pub fn task_at(words: &[u32], row: usize) -> Task
 }
 
 // The number of the first refusal that applies to a row, 0 where none does; `twice` tells whether its id stands in an earlier row.
+#[tactic(auto, unfolding(law::specs::Table::fault_of))]
 pub fn row_fault(r: Task, twice: bool) -> u64
     ensures { result ≡ fault_of (task_said r) twice }
 {
