@@ -50,8 +50,11 @@ pub fn tell<O: Write, E: Write>(
 {
     let mut refusal = [0u8; 64];
     let s = said(answer, &mut refusal);
+    if s.out == 0 {
+        return error.write_all(&refusal[..s.error]);
+    }
     match out.write_all(&text[..s.out]) {
-        Ok(()) => error.write_all(&refusal[..s.error]),
+        Ok(()) => Ok(()),
         Err(_) => error.write_all(b"not written whole\n"),
     }
 }

@@ -1,7 +1,7 @@
--- What the walks of `settle_in` and `settle_lent` share: the two facts of the settling contract, and the four numbers that each is passed and passes on.
+-- What walks of `settle_in` and `settle_lent` by hand share (the check finds both alone, and no proof cites this): the two facts of the settling contract, and the four numbers that each is passed and passes on.
 --     Asked, Amended   what settling asks of a tally and the numbers, and what it says of the tally after
 --     nums, Nums       the numbers' machine values, and what the numbers own there.        made     that is had for nothing, where each fits its width
---     kept, kept-go    at exit the numbers are owned as they were passed, and their law
+--     kept, kept_go    at exit the numbers are owned as they were passed, and their law
 use mathlib.Core.Path.{◌≡◌, refl}
 use Prim.Native.Nat.{ℕ, ◌<◌, ◌≤◌, ◌^◌}
 use mathlib.Core.List.{[], ◌∷◌, List}

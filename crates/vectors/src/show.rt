@@ -1,4 +1,4 @@
-// Answers on standard output, each number after a space: 0 and a value, or a refusal's number and its row or place.
+// Answers on a writer, each number after a space: 0 and a value, or a refusal's number and its row or place.
 ghost use Rattle.std.specs.Counts.{IsPrefixLen};
 
 use crate::numbers::held;

@@ -1,4 +1,4 @@
--- Where a stretch ends: from t up to `untilOf tasks i t` no row above row i releases before the last tick.
+-- Where a stretch ends: from t up to `until_of tasks i t` no row above row i releases before the last tick.
 use Rattle.std.specs.Prelude.{List, ℕ, zero, suc, ◌*◌}
 use Rattle.law.specs.Sums.{smaller, ceil}
 use Rattle.law.specs.Table.{Task, row}
