@@ -11,10 +11,10 @@
  * They can be called at the same time on different runs. The archive has no writable data, and the only outside symbols it asks for
  * are memcpy and memset.
  *
- * Stack, measured at 32 rows: gp_word, gp_tick and gp_run lay the pattern book there, up to 17,368 bytes in all; gp_replay also a
- * copy of the state, 22,488 bytes; gp_report also holds a table, a state and what it prints, 29,560 bytes; gp_to_old
- * 4,472, gp_to_new 3,544, gp_write 1,688, gp_read 1,288, gp_verdict 688, gp_rooms 192; gp_job, gp_check, gp_fresh,
- * gp_well, gp_counts and gp_held under 150.
+ * Stack, measured at 32 rows: gp_word, gp_tick and gp_run lay the pattern book there, up to 17,592 bytes in all; gp_replay also a
+ * copy of the state, 22,728 bytes; gp_report also holds a table, a state and what it prints, 29,768 bytes; gp_to_old
+ * 3,512, gp_to_new 3,512, gp_write 1,656, gp_read 1,128, gp_verdict 592, gp_rooms 176; gp_job, gp_check, gp_fresh,
+ * gp_well, gp_counts and gp_held under 150. No frames along any calls add up to more; memcpy and memset are not counted.
  *
  * Answers. Every function hands back two numbers, gp_replay a third behind them. Where `refusal` is 0, the call was accepted and
  * `value` is its answer. Otherwise `refusal` is a number of documents 01 and 02 (enum gp_refusal), and `value` is the row or the place
