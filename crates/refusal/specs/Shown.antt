@@ -1,6 +1,7 @@
--- How the enum `Refusal` is read: its number in documents 01 and 02, and the row or place that is also returned.
-use Rattle.std.specs.Prelude.{Bool, true, false, List, [], ◌∷◌, ℕ}
-use Rattle.law.specs.Refusal.{Answer, refused}
+-- How the enum `Refusal` is read: its number in documents 01 and 02, and the row or place that is also returned. And how the answers are read that are a
+-- `Result` whose error it is.
+use Rattle.std.specs.Prelude.{Bool, true, false, List, [], ◌∷◌, ℕ, Option, None, Some, Result, Ok, Err}
+use Rattle.law.specs.Refusal.{Answer, accepted, refused}
 use Rattle.refusal.specs.declared.Refusal.{Refusal}
 use Rattle.refusal.specs.declared.Refusal.TheVariants.{NotWholeRows, NoRows, ManyRows, Id, T, D, C, K, M, Repeated, Unschedulable, Text, Room, State, Clock, P, NotOld, Log}
 
@@ -52,5 +53,20 @@ is_some (v ∷ vs) = true
 abbrev pub has_also : Refusal → Bool
 has_also r = is_some (also_of r)
 
+-- the row or place as the code has it
+abbrev pub listed : Option ℕ → List ℕ
+listed None = []
+listed (Some v) = v ∷ []
+
 abbrev pub shown : Refusal → Answer
 shown r = refused (number_of r) (also_of r)
+
+-- a call that gives one number: accepted with it, or the refusal
+abbrev pub answered : Result ℕ Refusal → Answer
+answered (Ok n) = accepted (n ∷ [])
+answered (Err r) = shown r
+
+-- a call that gives nothing more
+abbrev pub done : Result Unit Refusal → Answer
+done (Ok u) = accepted []
+done (Err r) = shown r

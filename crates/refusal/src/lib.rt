@@ -3,10 +3,10 @@
 
 ghost use Rattle.std.specs.Prelude.{◌≡◌};
 ghost use Rattle.law.specs.Refusal.{code_of, value_of, within};
-ghost use Rattle.refusal.specs.Shown.{shown, has_also};
+ghost use Rattle.refusal.specs.Shown.{shown, number_of, also_of, listed, has_also};
 
 // A refusal and, where a row or a place is also returned, the row or the place that goes with it.
-#[derive(Clone, Copy)]
+#[derive(Clone, Copy, Debug, PartialEq, Eq, Hash)]
 pub enum Refusal {
     NotWholeRows,
     NoRows,
@@ -28,87 +28,79 @@ pub enum Refusal {
     Log(u64),
 }
 
-// The number of a refusal in documents 01 and 02.
-pub fn number(r: Refusal) -> u64
-    ensures { result ≡ code_of (shown r) }
-{
-    match r {
-        Refusal::NotWholeRows => 1,
-        Refusal::NoRows => 2,
-        Refusal::ManyRows => 3,
-        Refusal::Id(_) => 4,
-        Refusal::T(_) => 5,
-        Refusal::D(_) => 6,
-        Refusal::C(_) => 7,
-        Refusal::K(_) => 8,
-        Refusal::M(_) => 9,
-        Refusal::Repeated(_) => 10,
-        Refusal::Unschedulable(_) => 11,
-        Refusal::Text(_) => 12,
-        Refusal::Room => 13,
-        Refusal::State => 14,
-        Refusal::Clock => 15,
-        Refusal::P(_) => 16,
-        Refusal::NotOld(_) => 17,
-        Refusal::Log(_) => 18,
+impl Refusal {
+    // The number of a refusal in documents 01 and 02, and the row or the place that goes with it.
+    fn parts(self) -> (u64, Option<u64>)
+        ensures number { result.0 ≡ number_of self }
+        ensures place { listed result.1 ≡ also_of self }
+    {
+        match self {
+            Refusal::NotWholeRows => (1, None),
+            Refusal::NoRows => (2, None),
+            Refusal::ManyRows => (3, None),
+            Refusal::Id(row) => (4, Some(row)),
+            Refusal::T(row) => (5, Some(row)),
+            Refusal::D(row) => (6, Some(row)),
+            Refusal::C(row) => (7, Some(row)),
+            Refusal::K(row) => (8, Some(row)),
+            Refusal::M(row) => (9, Some(row)),
+            Refusal::Repeated(row) => (10, Some(row)),
+            Refusal::Unschedulable(row) => (11, Some(row)),
+            Refusal::Text(place) => (12, Some(place)),
+            Refusal::Room => (13, None),
+            Refusal::State => (14, None),
+            Refusal::Clock => (15, None),
+            Refusal::P(row) => (16, Some(row)),
+            Refusal::NotOld(row) => (17, Some(row)),
+            Refusal::Log(place) => (18, Some(place)),
+        }
     }
-}
 
-// The row or the place that goes with a refusal, 0 where there is none.
-pub fn also(r: Refusal) -> u64
-    ensures { result ≡ value_of (shown r) }
-{
-    match r {
-        Refusal::NotWholeRows => 0,
-        Refusal::NoRows => 0,
-        Refusal::ManyRows => 0,
-        Refusal::Id(row) => row,
-        Refusal::T(row) => row,
-        Refusal::D(row) => row,
-        Refusal::C(row) => row,
-        Refusal::K(row) => row,
-        Refusal::M(row) => row,
-        Refusal::Repeated(row) => row,
-        Refusal::Unschedulable(row) => row,
-        Refusal::Text(place) => place,
-        Refusal::Room => 0,
-        Refusal::State => 0,
-        Refusal::Clock => 0,
-        Refusal::P(row) => row,
-        Refusal::NotOld(row) => row,
-        Refusal::Log(place) => place,
+    // The number of a refusal in documents 01 and 02.
+    pub fn number(self) -> u64
+        ensures { result ≡ code_of (shown self) }
+    {
+        self.parts().0
     }
-}
 
-// Whether a row or a place goes with a refusal.
-pub fn has_also(r: Refusal) -> bool
-    ensures { result ≡ has_also r }
-{
-    match r {
-        Refusal::NotWholeRows => false,
-        Refusal::NoRows => false,
-        Refusal::ManyRows => false,
-        Refusal::Id(_) => true,
-        Refusal::T(_) => true,
-        Refusal::D(_) => true,
-        Refusal::C(_) => true,
-        Refusal::K(_) => true,
-        Refusal::M(_) => true,
-        Refusal::Repeated(_) => true,
-        Refusal::Unschedulable(_) => true,
-        Refusal::Text(_) => true,
-        Refusal::Room => false,
-        Refusal::State => false,
-        Refusal::Clock => false,
-        Refusal::P(_) => true,
-        Refusal::NotOld(_) => true,
-        Refusal::Log(_) => true,
+    // The row or the place that goes with a refusal, where there is one.
+    pub fn place(self) -> Option<u64>
+        ensures { listed result ≡ also_of self }
+    {
+        self.parts().1
+    }
+
+    // The row or the place that goes with a refusal, 0 where there is none.
+    pub fn place_or_zero(self) -> u64
+        ensures { result ≡ value_of (shown self) }
+    {
+        self.place().unwrap_or(0)
     }
 }
 
 // Whether x lies in low..high, both ends included.
+#[tactic(auto, unfolding(law::specs::Refusal::within))]
 pub fn is_within(low: u64, high: u64, x: u64) -> bool
     ensures { result ≡ within low high x }
 {
-    if low <= x { x <= high } else { false }
+    (low..=high).contains(&x)
+}
+
+// The same as functions.
+pub fn number(r: Refusal) -> u64
+    ensures { result ≡ code_of (shown r) }
+{
+    r.number()
+}
+
+pub fn also(r: Refusal) -> u64
+    ensures { result ≡ value_of (shown r) }
+{
+    r.place_or_zero()
+}
+
+pub fn has_also(r: Refusal) -> bool
+    ensures { result ≡ has_also r }
+{
+    r.place().is_some()
 }
