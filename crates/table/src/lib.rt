@@ -1,11 +1,11 @@
 // A task table: a lent run of 32-bit words, seven to a row, and its checks in their order.
 #![tactic(auto)]
 
-ghost use Rattle.std.specs.Prelude.{◌≡◌, [], ◌∷◌, ◌++◌, ◌+◌, ◌*◌, ◌/◌, ◌<◌, ◌≤◌, length, get_or, take, drop};
+ghost use Rattle.std.specs.Prelude.{◌≡◌, [], ◌∷◌, ◌++◌, ◌+◌, ◌*◌, ◌/◌, ◌<◌, ◌≤◌, length, get_or, take, drop, IfOk};
 ghost use Rattle.law.specs.Refusal.{refused};
 ghost use Rattle.law.specs.Table.{task_at, table_of, repeated, RowNumber, fault_of, rows_checked, checked};
-ghost use Rattle.refusal.specs.Shown.{shown as refusal_shown};
-ghost use Rattle.table.specs.Said.{task_said, shown};
+ghost use Rattle.refusal.specs.Shown.{shown, answered};
+ghost use Rattle.table.specs.Said.{task_said};
 
 use refusal::{Refusal, is_within};
 
@@ -19,13 +19,6 @@ pub struct Task {
     pub m: u64,
     pub k: u64,
     pub p: u64,
-}
-
-// The number of rows of a well-formed table, or why it is none.
-#[derive(Clone, Copy)]
-pub enum Checked {
-    Rows(usize),
-    Refused(Refusal),
 }
 
 // The words of a row.
@@ -92,7 +85,7 @@ pub fn row_fault(r: Task, twice: bool) -> u64
 // The refusal of a row, by its number.
 fn row_refusal(number: u64, row: u64) -> Refusal
     requires { RowNumber number }
-    ensures { refusal_shown result ≡ refused number (row ∷ []) }
+    ensures { shown result ≡ refused number (row ∷ []) }
 {
     match number {
         4 => Refusal::Id(row),
@@ -123,34 +116,36 @@ fn is_repeated(words: &[u32], row: usize) -> bool
 }
 
 // The rows of a table, from the first on.
-fn check_rows(words: &[u32]) -> Checked
-    ensures { shown result ≡ rows_checked (table_of words.now) }
+fn check_rows(words: &[u32]) -> Result<usize, Refusal>
+    ensures answer { answered result ≡ rows_checked (table_of words.now) }
+    ensures rows { IfOk result (λ n. n ≡ length words.now / 7) }
 {
     let rows = words.len() / WIDTH;
     let mut i = 0;
     while i < rows {
         let number = row_fault(task_at(words, i), is_repeated(words, i));
         if number != 0 {
-            return Checked::Refused(row_refusal(number, i as u64));
+            return Err(row_refusal(number, i as u64));
         }
         i += 1;
     }
-    Checked::Rows(rows)
+    Ok(rows)
 }
 
 // Whether a lent run of words, of any length, is a task table: the first refusal that applies, or the number of rows.
-pub fn check(words: &[u32]) -> Checked
-    ensures { shown result ≡ checked words.now }
+pub fn check(words: &[u32]) -> Result<usize, Refusal>
+    ensures answer { answered result ≡ checked words.now }
+    ensures rows { IfOk result (λ n. n ≡ length words.now / 7) }
 {
     let n = words.len();
     if n % WIDTH != 0 {
-        return Checked::Refused(Refusal::NotWholeRows);
+        return Err(Refusal::NotWholeRows);
     }
     if n / WIDTH == 0 {
-        return Checked::Refused(Refusal::NoRows);
+        return Err(Refusal::NoRows);
     }
     if 32 < n / WIDTH {
-        return Checked::Refused(Refusal::ManyRows);
+        return Err(Refusal::ManyRows);
     }
     check_rows(words)
 }

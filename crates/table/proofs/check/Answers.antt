@@ -22,20 +22,20 @@ whole c = eq-eqb _ 0 c.if-n-ne0.false
 some : (c : Else-n-eq0) → ltb 0 (length c.args.words.now / 7) ≡ true
 some c = positive _ c.if-n-eq0.false
 
-pub returns-then-n-ne0 : goal.returns-then-n-ne0
+pub returns-then-n-ne0-clause-answer : goal.returns-then-n-ne0-clause-answer
 unfolding checked
-returns-then-n-ne0 c = sym (simp (ne_eqb _ 0 c.if-n-ne0.true))
+returns-then-n-ne0-clause-answer c = sym (simp (ne_eqb _ 0 c.if-n-ne0.true))
 
-pub returns-then-n-eq0 : goal.returns-then-n-eq0
+pub returns-then-n-eq0-clause-answer : goal.returns-then-n-eq0-clause-answer
 unfolding checked
-returns-then-n-eq0 c = sym (simp (whole (goal.at.returns-then-n-eq0 c).Else-n-ne0, nought _ c.if-n-eq0.true))
+returns-then-n-eq0-clause-answer c = sym (simp (whole (goal.at.returns-then-n-eq0-clause-answer c).Else-n-ne0, nought _ c.if-n-eq0.true))
 
-pub returns-then-n-gt32 : goal.returns-then-n-gt32
+pub returns-then-n-gt32-clause-answer : goal.returns-then-n-gt32-clause-answer
 unfolding checked
-returns-then-n-gt32 c = sym (simp (whole (goal.at.returns-then-n-gt32 c).Else-n-ne0, some (goal.at.returns-then-n-gt32 c).Else-n-eq0, lt-leb _ 32 c.if-n-gt32.true))
+returns-then-n-gt32-clause-answer c = sym (simp (whole (goal.at.returns-then-n-gt32-clause-answer c).Else-n-ne0, some (goal.at.returns-then-n-gt32-clause-answer c).Else-n-eq0, lt-leb _ 32 c.if-n-gt32.true))
 
-pub returns : goal.returns
+pub returns-clause-answer : goal.returns-clause-answer
 unfolding checked
-returns c =
-    c.check_rows.ensures
-    ∙ sym (simp (whole (goal.at.returns c).Else-n-ne0, some (goal.at.returns c).Else-n-eq0, le-leb _ 32 c.if-n-gt32.false))
+returns-clause-answer c =
+    c.check_rows.ensures.answer
+    ∙ sym (simp (whole (goal.at.returns-clause-answer c).Else-n-ne0, some (goal.at.returns-clause-answer c).Else-n-eq0, le-leb _ 32 c.if-n-gt32.false))

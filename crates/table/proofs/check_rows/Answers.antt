@@ -50,12 +50,12 @@ pub row_refusal-requires : goal.row_refusal-requires
 row_refusal-requires c =
     rw c.row_fault-number.ensures (fault_range _ _ (λ e. c.if-number-ne0.true (c.row_fault-number.ensures ∙ e)))
 
-pub returns-then-number-ne0 : goal.returns-then-number-ne0
-returns-then-number-ne0 c =
+pub returns-then-number-ne0-clause-answer : goal.returns-then-number-ne0-clause-answer
+returns-then-number-ne0-clause-answer c =
     let l = c.loop-i in
     let t = c.loop-i-test.true in
-    let found = searched_hit l.invariant t (clean (goal.at.returns-then-number-ne0 c).After-row_fault-number false (ne_eqb _ 0 c.if-number-ne0.true)) in
-    c.row_refusal.ensures ∙ ap (λ (z : ℕ). refused z (l.i ∷ [])) (told (goal.at.returns-then-number-ne0 c).After-row_fault-number)
+    let found = searched_hit l.invariant t (clean (goal.at.returns-then-number-ne0-clause-answer c).After-row_fault-number false (ne_eqb _ 0 c.if-number-ne0.true)) in
+    c.row_refusal.ensures ∙ ap (λ (z : ℕ). refused z (l.i ∷ [])) (told (goal.at.returns-then-number-ne0-clause-answer c).After-row_fault-number)
     ∙ sym (rows_refused _ l.i (faulty-is _ _ found) (omega (arith, table_length c.args.words.now)))
 
 pub overflow_add-i : goal.overflow_add-i
@@ -69,8 +69,8 @@ loop-i-preserved c =
     searched_next c.loop-i.invariant c.loop-i-test.true
     (clean (goal.at.loop-i-preserved c).After-row_fault-number true (eq-eqb _ 0 c.if-number-ne0.false))
 
-pub returns : goal.returns
-returns c =
+pub returns-clause-answer : goal.returns-clause-answer
+returns-clause-answer c =
     let words = c.args.words.now in
     let end = searched_end c.loop-i.invariant c.loop-i-test.false in
     ap (λ (z : ℕ). accepted (z ∷ [])) (sym (table_length words))
