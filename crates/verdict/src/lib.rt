@@ -8,25 +8,12 @@ ghost use Rattle.law.specs.Table.{table_of, count_of, Ranged, WellFormed};
 ghost use Rattle.law.specs.Verdict.{demand as demand_law, above, misfit, responses, verdict, verdict_room};
 ghost use Rattle.law.specs.Room.{room_at, room as room_law, rooms as rooms_law, rooms_answer, rooms_lent};
 ghost use Rattle.table.specs.Said.{task_said};
-ghost use Rattle.verdict.specs.Said.{shown, measured, fit_of};
+ghost use Rattle.refusal.specs.Shown.{answered};
+ghost use Rattle.verdict.specs.Said.{fit_of};
 ghost use Rattle.verdict.specs.Stretch.{next_release, until_of};
 
 use refusal::Refusal;
-use table::{Checked, Task, WIDTH, check, lay, task_at};
-
-// The verdict on a table: admitted, with the number of rows, or why not.
-#[derive(Clone, Copy)]
-pub enum Verdict {
-    Admitted(usize),
-    Refused(Refusal),
-}
-
-// The rooms of a table: written for so many rows, or why not.
-#[derive(Clone, Copy)]
-pub enum Measured {
-    Rows(usize),
-    Refused(Refusal),
-}
+use table::{Task, WIDTH, check, lay, task_at};
 
 // What the search of a row finds.
 #[derive(Clone, Copy)]
@@ -186,27 +173,24 @@ fn respond(words: &[u32]) -> Responses
     }
 }
 
-// The verdict on a lent run of words. Admitted: the response times stand in the first words of the room, one per row.
+// The verdict on a lent run of words. Admitted, with the number of rows: the response times stand in the first words of the room, one per row.
 // Refused: the room is as it was.
-pub fn judge(words: &[u32], room: &mut [u32]) -> Verdict
-    ensures answer { shown result ≡ verdict words.now (length room.old) }
+pub fn judge(words: &[u32], room: &mut [u32]) -> Result<usize, Refusal>
+    ensures answer { answered result ≡ verdict words.now (length room.old) }
     ensures room { room.new ≡ verdict_room words.now room.old }
 {
-    let rows = match check(words) {
-        Checked::Rows(rows) => rows,
-        Checked::Refused(refusal) => return Verdict::Refused(refusal),
-    };
+    let rows = check(words)?;
     if room.len() < rows {
-        return Verdict::Refused(Refusal::Room);
+        return Err(Refusal::Room);
     }
     let found = respond(words);
     let misfit = found.misfit;
     if misfit < rows {
-        return Verdict::Refused(Refusal::Unschedulable(misfit as u64));
+        return Err(Refusal::Unschedulable(misfit as u64));
     }
     let times = found.times;
     lay(&times, rows, room);
-    Verdict::Admitted(rows)
+    Ok(rows)
 }
 
 // The room of every row, from the top, in the first words of a lent run.
@@ -222,18 +206,16 @@ fn measure(words: &[u32], run: &mut [u32])
     }
 }
 
-// The rooms of a table in a lent run of words, one per row in its first words, whether the table is admitted or turned down. Refused: the run is as it was.
-pub fn rooms(words: &[u32], run: &mut [u32]) -> Measured
-    ensures answer { measured result ≡ rooms_answer words.now (length run.old) }
+// The rooms of a table in a lent run of words, one per row in its first words, whether the table is admitted or turned down: the number of rows.
+// Refused: the run is as it was.
+pub fn rooms(words: &[u32], run: &mut [u32]) -> Result<usize, Refusal>
+    ensures answer { answered result ≡ rooms_answer words.now (length run.old) }
     ensures run { run.new ≡ rooms_lent words.now run.old }
 {
-    let rows = match check(words) {
-        Checked::Rows(rows) => rows,
-        Checked::Refused(refusal) => return Measured::Refused(refusal),
-    };
+    let rows = check(words)?;
     if run.len() < rows {
-        return Measured::Refused(Refusal::Room);
+        return Err(Refusal::Room);
     }
     measure(words, run);
-    Measured::Rows(rows)
+    Ok(rows)
 }
