@@ -5,14 +5,13 @@ ghost use Rattle.std.specs.Prelude.{◌≡◌, ◌+◌, ◌*◌, ◌≤◌, ◌<
 ghost use Rattle.law.specs.Sums.{pick};
 ghost use Rattle.law.specs.Table.{table_of};
 ghost use Rattle.law.specs.Carry.{relaid, sayable, new_words, new_checked, old_words, old_checked, to_new_answer, to_new_room, to_old_answer, to_old_room};
-ghost use Rattle.table.specs.Said.{shown as checked_shown};
-ghost use Rattle.text.specs.Said.{shown as read_shown, stood};
-ghost use Rattle.text.specs.Written.{shown};
+ghost use Rattle.refusal.specs.Shown.{answered};
+ghost use Rattle.text.specs.Said.{stood};
 
 use refusal::Refusal;
-use table::{Checked, WIDTH, check, task_at};
-use text::read::{Reading, read, rows_of};
-use text::write::{Written, write_rows};
+use table::{WIDTH, check, task_at};
+use text::read::{read, rows_of};
+use text::write::write_rows;
 
 // The words of a row of an old text.
 const OLD_WIDTH: usize = 6;
@@ -43,79 +42,63 @@ fn relay(words: &[u32], rows: usize, from: usize, to: usize, out: &mut [u32])
 }
 
 // Whether the old form can say each row of a table; the first that it cannot say is refused.
-fn check_old(words: &[u32]) -> Checked
-    ensures { checked_shown result ≡ sayable (table_of words.now) }
+fn check_old(words: &[u32]) -> Result<usize, Refusal>
+    ensures { answered result ≡ sayable (table_of words.now) }
 {
     let rows = words.len() / WIDTH;
     let mut i = 0;
     while i < rows {
         if task_at(words, i).p == 1 {
-            return Checked::Refused(Refusal::NotOld(i as u64));
+            return Err(Refusal::NotOld(i as u64));
         }
         i += 1;
     }
-    Checked::Rows(rows)
+    Ok(rows)
 }
 
 // The table that an old text says, seven words a row from the start of `words`: the number of its rows, or why it is none.
-fn new_rows(text: &[u8], words: &mut [u32]) -> Reading
+fn new_rows(text: &[u8], words: &mut [u32]) -> Result<usize, Refusal>
     requires { length words.old ≡ 224 }
-    ensures answer { read_shown result ≡ new_checked text.now }
+    ensures answer { answered result ≡ new_checked text.now }
     ensures words { stood result 7 words.new (new_words text.now) ≡ new_words text.now }
 {
     let mut old = [0u32; 224];
-    let rows = match rows_of(text, &mut old, OLD_WIDTH) {
-        Reading::Rows(rows) => rows,
-        Reading::Refused(refusal) => return Reading::Refused(refusal),
-    };
+    let rows = rows_of(text, &mut old, OLD_WIDTH)?;
     relay(&old[..rows * OLD_WIDTH], rows, OLD_WIDTH, WIDTH, words);
-    match check(&words[..rows * WIDTH]) {
-        Checked::Rows(_) => Reading::Rows(rows),
-        Checked::Refused(refusal) => Reading::Refused(refusal),
-    }
+    check(&words[..rows * WIDTH])
 }
 
 // An old text as a new one, with `p=0` in every row, at the start of a lent room: the length of the new text. Refused: the room is as it was.
-pub fn to_new(text: &[u8], room: &mut [u8]) -> Written
-    ensures answer { shown result ≡ to_new_answer text.now (length room.old) }
+pub fn to_new(text: &[u8], room: &mut [u8]) -> Result<usize, Refusal>
+    ensures answer { answered result ≡ to_new_answer text.now (length room.old) }
     ensures room { room.new ≡ to_new_room text.now room.old }
 {
     let mut words = [0u32; 224];
-    match new_rows(text, &mut words) {
-        Reading::Rows(rows) => write_rows(&words[..rows * WIDTH], rows, WIDTH, room),
-        Reading::Refused(refusal) => Written::Refused(refusal),
-    }
+    let rows = new_rows(text, &mut words)?;
+    write_rows(&words[..rows * WIDTH], rows, WIDTH, room)
 }
 
 // The words of a new text's rows without p, from the start of `old`, where the old form can say them all: the number of rows, or why not.
 // 224 words are room for every table that is read.
-fn old_rows(text: &[u8], old: &mut [u32]) -> Reading
+fn old_rows(text: &[u8], old: &mut [u32]) -> Result<usize, Refusal>
     requires { length old.old ≡ 224 }
-    ensures answer { read_shown result ≡ old_checked text.now }
+    ensures answer { answered result ≡ old_checked text.now }
     ensures words { stood result 6 old.new (old_words text.now) ≡ old_words text.now }
 {
     let mut words = [0u32; 224];
-    let rows = match read(text, &mut words) {
-        Reading::Rows(rows) => rows,
-        Reading::Refused(refusal) => return Reading::Refused(refusal),
-    };
+    let rows = read(text, &mut words)?;
     let n = rows * WIDTH;
-    match check_old(&words[..n]) {
-        Checked::Rows(_) => {}
-        Checked::Refused(refusal) => return Reading::Refused(refusal),
-    }
+    check_old(&words[..n])?;
     relay(&words[..n], rows, WIDTH, OLD_WIDTH, old);
-    Reading::Rows(rows)
+    Ok(rows)
 }
 
 // A new text whose every p is 0 as an old one, at the start of a lent room: the length of the old text. Refused: the room is as it was.
-pub fn to_old(text: &[u8], room: &mut [u8]) -> Written
-    ensures answer { shown result ≡ to_old_answer text.now (length room.old) }
+pub fn to_old(text: &[u8], room: &mut [u8]) -> Result<usize, Refusal>
+    ensures answer { answered result ≡ to_old_answer text.now (length room.old) }
     ensures room { room.new ≡ to_old_room text.now room.old }
 {
     let mut old = [0u32; 224];
-    match old_rows(text, &mut old) {
-        Reading::Rows(rows) => write_rows(&old[..rows * OLD_WIDTH], rows, OLD_WIDTH, room),
-        Reading::Refused(refusal) => Written::Refused(refusal),
-    }
+    let rows = old_rows(text, &mut old)?;
+    write_rows(&old[..rows * OLD_WIDTH], rows, OLD_WIDTH, room)
 }

@@ -3,25 +3,19 @@
 ghost use Rattle.std.specs.Prelude.{◌≡◌, ◌≤◌, ◌<◌, ◌*◌, length, take, drop};
 ghost use Rattle.law.specs.Text.{row_keys, keys_of};
 ghost use Rattle.law.specs.Reading.{lines_at, rows_at, words_read, text_answer, read_answer, read_room};
-ghost use Rattle.text.specs.Said.{told, shown, stood};
+ghost use Rattle.refusal.specs.Shown.{answered};
+ghost use Rattle.text.specs.Said.{told, stood};
 
 use crate::reader::value_from;
 use line::read::{Value, line_at, place};
 use refusal::Refusal;
-use table::{Checked, WIDTH, check, lay};
+use table::{WIDTH, check, lay};
 
 // Where a run of lines ends: the place after them; or the place of a fault.
 #[derive(Clone, Copy)]
 pub(crate) enum Rest {
     Next(usize),
     Broken(usize),
-}
-
-// A text that is read: the number of its rows; or why it is none.
-#[derive(Clone, Copy)]
-pub enum Reading {
-    Rows(usize),
-    Refused(Refusal),
 }
 
 // The first `width` lines of a row, from a place on, as words of that row.
@@ -82,46 +76,40 @@ fn rows_to_end(text: &[u8], from: usize, words: &mut [u32; 224], rows: usize, wi
 
 // A text whose rows have the first `width` lines of a row: the number of its rows, whose words then stand from the start of `words`, so many a
 // row; or the refusal of its lines.
-pub fn rows_of(text: &[u8], words: &mut [u32; 224], width: usize) -> Reading
+pub fn rows_of(text: &[u8], words: &mut [u32; 224], width: usize) -> Result<usize, Refusal>
     requires { (length words.old ≡ 224) × (width ≤ 7) }
-    ensures answer { shown result ≡ text_answer (take width row_keys) text.now }
+    ensures answer { answered result ≡ text_answer (take width row_keys) text.now }
     ensures words { stood result width words.new (words_read (take width row_keys) text.now) ≡ words_read (take width row_keys) text.now }
     ensures length { length words.new ≡ 224 }
 {
     let answer = line_at(text, 0, b"rows=");
     let Value::Is(rows, next) = answer else {
-        return Reading::Refused(Refusal::Text(place(answer) as u64));
+        return Err(Refusal::Text(place(answer) as u64));
     };
     if rows == 0 {
-        return Reading::Refused(Refusal::NoRows);
+        return Err(Refusal::NoRows);
     }
     if 32 < rows {
-        return Reading::Refused(Refusal::ManyRows);
+        return Err(Refusal::ManyRows);
     }
     match rows_to_end(text, next, words, rows as usize, width) {
-        Rest::Next(_) => Reading::Rows(rows as usize),
-        Rest::Broken(j) => Reading::Refused(Refusal::Text(j as u64)),
+        Rest::Next(_) => Ok(rows as usize),
+        Rest::Broken(j) => Err(Refusal::Text(j as u64)),
     }
 }
 
 // A task text, read into a lent room. Read: its words stand in the first words of the room, seven to a row. Refused: the room is as it was.
-pub fn read(text: &[u8], room: &mut [u32]) -> Reading
-    ensures answer { shown result ≡ read_answer text.now (length room.old) }
+pub fn read(text: &[u8], room: &mut [u32]) -> Result<usize, Refusal>
+    ensures answer { answered result ≡ read_answer text.now (length room.old) }
     ensures room { room.new ≡ read_room text.now room.old }
 {
     let mut words = [0u32; 224];
-    let rows = match rows_of(text, &mut words, WIDTH) {
-        Reading::Rows(rows) => rows,
-        Reading::Refused(refusal) => return Reading::Refused(refusal),
-    };
+    let rows = rows_of(text, &mut words, WIDTH)?;
     let n = rows * WIDTH;
-    match check(&words[..n]) {
-        Checked::Rows(_) => {}
-        Checked::Refused(refusal) => return Reading::Refused(refusal),
-    }
+    check(&words[..n])?;
     if room.len() < n {
-        return Reading::Refused(Refusal::Room);
+        return Err(Refusal::Room);
     }
     lay(&words, n, room);
-    Reading::Rows(rows)
+    Ok(rows)
 }

@@ -3,18 +3,11 @@ ghost use Rattle.std.specs.Prelude.{◌≡◌, ◌+◌, ◌*◌, ◌%◌, ◌≤
 ghost use Rattle.law.specs.Text.{row_keys};
 ghost use Rattle.law.specs.Reading.{text_of, put_answer, put_room, write_answer, write_room};
 ghost use Rattle.line.specs.Put.{put_at};
-ghost use Rattle.text.specs.Written.{shown};
+ghost use Rattle.refusal.specs.Shown.{answered};
 
 use line::put::{put_bytes, put_due, put_line};
 use refusal::Refusal;
-use table::{Checked, WIDTH, check};
-
-// The length of the text written, or why none was.
-#[derive(Clone, Copy)]
-pub enum Written {
-    Length(usize),
-    Refused(Refusal),
-}
+use table::{WIDTH, check};
 
 // The number within its row of the line after line j.
 fn next_line(j: usize, width: usize) -> usize
@@ -43,27 +36,25 @@ fn put_text(words: &[u32], rows: usize, width: usize, out: &mut [u8]) -> usize
 
 // The text of rows of so many words, at the start of a lent room; refused: the room is as it was. The text is made apart from the
 // room, since its length is known only then.
-pub fn write_rows(words: &[u32], rows: usize, width: usize, room: &mut [u8]) -> Written
+pub fn write_rows(words: &[u32], rows: usize, width: usize, room: &mut [u8]) -> Result<usize, Refusal>
     requires { (length words.now ≡ rows * width) × (rows ≤ 32) × (0 < width) × (width ≤ 7) × (length (text_of (take width row_keys) words.now) ≤ 1512) }
-    ensures answer { shown result ≡ put_answer (text_of (take width row_keys) words.now) (length room.old) }
+    ensures answer { answered result ≡ put_answer (text_of (take width row_keys) words.now) (length room.old) }
     ensures room { room.new ≡ put_room (text_of (take width row_keys) words.now) room.old }
 {
     let mut text = [0u8; 1512];
     let n = put_text(words, rows, width, &mut text);
     if room.len() < n {
-        return Written::Refused(Refusal::Room);
+        return Err(Refusal::Room);
     }
     put_bytes(room, 0, &text[..n]);
-    Written::Length(n)
+    Ok(n)
 }
 
-// The text of a table's words, at the start of a lent room; refused: the room is as it was.
-pub fn write(words: &[u32], room: &mut [u8]) -> Written
-    ensures answer { shown result ≡ write_answer words.now (length room.old) }
+// The text of a table's words, at the start of a lent room: its length; refused: the room is as it was.
+pub fn write(words: &[u32], room: &mut [u8]) -> Result<usize, Refusal>
+    ensures answer { answered result ≡ write_answer words.now (length room.old) }
     ensures room { room.new ≡ write_room words.now room.old }
 {
-    match check(words) {
-        Checked::Rows(rows) => write_rows(words, rows, WIDTH, room),
-        Checked::Refused(refusal) => Written::Refused(refusal),
-    }
+    let rows = check(words)?;
+    write_rows(words, rows, WIDTH, room)
 }
