@@ -3,9 +3,9 @@ ghost use Rattle.std.specs.Prelude.{◌≡◌, length, get_or};
 ghost use Rattle.law.specs.Tick.{no_row};
 ghost use Rattle.law.specs.State.{counts_of, counts_answer, counts_room, state_of};
 ghost use Rattle.rows.specs.Said.{Held};
-ghost use Rattle.dispatch.specs.Shown.{counts_said, ran_shown};
+ghost use Rattle.refusal.specs.Shown.{done};
+ghost use Rattle.dispatch.specs.Shown.{counts_said};
 
-use crate::run::Ran;
 use crate::well::is_well;
 use refusal::Refusal;
 use rows::row_at;
@@ -58,15 +58,15 @@ pub fn counts_of(words: &[u64], i: usize) -> Counts
 }
 
 // The counts of row i of a state that is lent as words, laid into the first words of a lent room.
-pub fn counts_words(words: &[u64], i: u32, room: &mut [u64]) -> Ran
-    ensures answer { ran_shown result ≡ counts_answer words.now (length room.old) }
+pub fn counts_words(words: &[u64], i: u32, room: &mut [u64]) -> Result<(), Refusal>
+    ensures answer { done result ≡ counts_answer words.now (length room.old) }
     ensures room { room.new ≡ counts_room words.now i room.old }
 {
     if !is_well(words) {
-        return Ran::Refused(Refusal::State);
+        return Err(Refusal::State);
     }
     if room.len() < COUNT_WORDS {
-        return Ran::Refused(Refusal::Room);
+        return Err(Refusal::Room);
     }
     let c = counts_of(words, i as usize);
     room[0] = c.released;
@@ -76,5 +76,5 @@ pub fn counts_words(words: &[u64], i: u32, room: &mut [u64]) -> Ran
     room[4] = c.ox;
     room[5] = c.broken;
     room[6] = c.spare;
-    Ran::Done
+    Ok(())
 }

@@ -5,25 +5,18 @@ ghost use Rattle.law.specs.Tick.{fresh_row, fresh as fresh_law};
 ghost use Rattle.law.specs.State.{laid, fresh_answer, fresh_words as fresh_words_law};
 ghost use Rattle.table.specs.Said.{task_said};
 ghost use Rattle.rows.specs.Said.{row_said};
-ghost use Rattle.dispatch.specs.Shown.{started_shown};
+ghost use Rattle.refusal.specs.Shown.{answered};
 
 use book::low_bits;
 use refusal::Refusal;
 use rows::{Row, STATE_WORDS, State, put_row};
-use table::{Checked, Task, WIDTH, check, task_at};
+use table::{Task, WIDTH, check, task_at};
 use tally::Tally;
-
-// Whether a fresh state was laid, with its number of rows, or why not.
-#[derive(Clone, Copy)]
-pub enum Started {
-    Rows(usize),
-    Refused(Refusal),
-}
 
 // The answer, and the state, which is all zero where it was refused.
 #[derive(Clone, Copy)]
 pub struct Begun {
-    pub answer: Started,
+    pub answer: Result<usize, Refusal>,
     pub state: State,
 }
 
@@ -79,25 +72,22 @@ fn lay_fresh(table: &[u32], words: &mut [u64])
     }
 }
 
-// The fresh state of a table, laid into the first words of a lent room.
-pub fn fresh_words(table: &[u32], room: &mut [u64]) -> Started
-    ensures answer { started_shown result ≡ fresh_answer table.now (length room.old) }
+// The fresh state of a table, laid into the first words of a lent room: its number of rows.
+pub fn fresh_words(table: &[u32], room: &mut [u64]) -> Result<usize, Refusal>
+    ensures answer { answered result ≡ fresh_answer table.now (length room.old) }
     ensures room { room.new ≡ fresh_words_law table.now room.old }
 {
-    let rows = match check(table) {
-        Checked::Rows(rows) => rows,
-        Checked::Refused(refusal) => return Started::Refused(refusal),
-    };
+    let rows = check(table)?;
     if room.len() < STATE_WORDS {
-        return Started::Refused(Refusal::Room);
+        return Err(Refusal::Room);
     }
     lay_fresh(table, &mut room[..STATE_WORDS]);
-    Started::Rows(rows)
+    Ok(rows)
 }
 
 // The fresh state of a table by value.
 pub fn fresh(table: &[u32]) -> Begun
-    ensures answer { started_shown result.answer ≡ fresh_answer table.now 643 }
+    ensures answer { answered result.answer ≡ fresh_answer table.now 643 }
     ensures state { result.state.words ≡ fresh_words_law table.now (replicate 643 0) }
 {
     let mut words = [0u64; 643];

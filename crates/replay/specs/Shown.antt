@@ -1,17 +1,17 @@
--- How the enum `Replayed` is read as an answer, and what the routines of a tick with a log leave.
-use Rattle.std.specs.Prelude.{Bool, false, List, [], ◌∷◌, ◌≡◌, ℕ}
+-- How the answer of a replay is read, and what the routines of a tick with a log leave.
+use Rattle.std.specs.Prelude.{Bool, false, List, [], ◌∷◌, ◌≡◌, ℕ, Result, Ok, Err}
 use Rattle.law.specs.Refusal.{Answer, accepted}
 use Rattle.law.specs.Tick.{State, begin}
 use Rattle.law.specs.State.{laid}
 use Rattle.law.specs.Replay.{Replay, logged, replayed}
 use Rattle.refusal.specs.Shown.{shown}
-use Rattle.replay.specs.declared.Replayed.{Replayed}
-use Rattle.replay.specs.declared.Replayed.TheVariants.{Done, Refused}
+use Rattle.refusal.specs.declared.Refusal.{Refusal}
+use Rattle.replay.specs.declared.Progress.{Progress}
 
 -- ticks done and numbers used, or the refusal
-abbrev pub replayed_shown : Replayed → Answer
-replayed_shown (Done p) = accepted (p.ticks ∷ p.used ∷ [])
-replayed_shown (Refused r) = shown r
+abbrev pub replayed_shown : Result Progress Refusal → Answer
+replayed_shown (Ok p) = accepted (p.ticks ∷ p.used ∷ [])
+replayed_shown (Err r) = shown r
 
 -- a replay that has come to a state and has used so many numbers; the ticks done don't matter to the next one
 abbrev pub under : State → ℕ → Replay

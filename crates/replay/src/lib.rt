@@ -10,7 +10,7 @@ ghost use Rattle.replay.specs.Shown.{replayed_shown, Handed};
 
 mod step;
 
-use dispatch::run::{Ran, may_run};
+use dispatch::run::may_run;
 use refusal::Refusal;
 use rows::State;
 use step::{enough, release_logged};
@@ -24,23 +24,16 @@ pub struct Progress {
     pub used: u64,
 }
 
-// How far a replay came, or why it was not made.
-#[derive(Clone, Copy)]
-pub enum Replayed {
-    Done(Progress),
-    Refused(Refusal),
-}
-
 // A replay's answer, and the state after it.
 #[derive(Clone, Copy)]
 pub struct After {
-    pub answer: Replayed,
+    pub answer: Result<Progress, Refusal>,
     pub state: State,
 }
 
 // At most n ticks, one after the other, and none from the first on that releases more jobs than the log has left. Where a number is out of range
 // the words are left in the middle of a tick.
-fn replay_ticks(words: &mut [u64], patterns: &[u64], n: u64, log: &[u32]) -> Replayed
+fn replay_ticks(words: &mut [u64], patterns: &[u64], n: u64, log: &[u32]) -> Result<Progress, Refusal>
     requires { (Held 0 words.old) × ((state_of words.old).time + n ≤ clock_end) × (Fetched (state_of words.old).rows patterns.now) }
     ensures answer { replayed_shown result ≡ replay_told log.now n (state_of words.old) }
     ensures words { Handed (replayed_shown result) log.now n (state_of words.old) words.new }
@@ -53,13 +46,13 @@ fn replay_ticks(words: &mut [u64], patterns: &[u64], n: u64, log: &[u32]) -> Rep
         }
         let step = release_logged(words, patterns, log, used);
         if step.bad {
-            return Replayed::Refused(Refusal::Log(step.next as u64));
+            return Err(Refusal::Log(step.next as u64));
         }
         finish(words);
         used = step.next;
         done += 1;
     }
-    Replayed::Done(Progress {
+    Ok(Progress {
         ticks: done,
         used: used as u64,
     })
@@ -79,24 +72,17 @@ fn overwrite(words: &mut [u64], state: &[u64])
 
 // A replay of a state that is lent as words. It is made on a copy, since a number out of range may stand late in the log: a refused replay
 // leaves every word as it was.
-pub fn replay_words(words: &mut [u64], n: u32, log: &[u32]) -> Replayed
+pub fn replay_words(words: &mut [u64], n: u32, log: &[u32]) -> Result<Progress, Refusal>
     ensures answer { replayed_shown result ≡ replay_answer words.old n log.now }
     ensures words { words.new ≡ replay_words_law words.old n log.now }
 {
-    match may_run(words, n) {
-        Ran::Done => {}
-        Ran::Refused(refusal) => return Replayed::Refused(refusal),
-    }
+    may_run(words, n)?;
     let patterns = fetch(words);
     let mut copy = [0u64; 643];
     overwrite(&mut copy, words);
-    match replay_ticks(&mut copy, &patterns, n as u64, log) {
-        Replayed::Refused(refusal) => Replayed::Refused(refusal),
-        Replayed::Done(progress) => {
-            overwrite(words, &copy);
-            Replayed::Done(progress)
-        }
-    }
+    let progress = replay_ticks(&mut copy, &patterns, n as u64, log)?;
+    overwrite(words, &copy);
+    Ok(progress)
 }
 
 // A replay of a state that goes in by value and comes back.

@@ -16,14 +16,14 @@ use Rattle.tick.proofs.Chain.{time_word}
 use Rattle.dispatch.specs.Shown.{ran_shown}
 use Rattle.dispatch.proofs.Saved.{saved_held}
 use Rattle.replay.specs.Shown.{replayed_shown}
-use Rattle.replay.proofs.replay_words.Goals.{After-replay_ticks, In-Done}
+use Rattle.replay.proofs.replay_words.Goals.{After-replay_ticks, In_ok-may_run}
 use Rattle.replay.proofs.replay_words.Goals as goal
 
 -- the words are a state, and the clock allows the ticks
-allowed : (c : In-Done) → run_answer c.args.words.now c.args.n ≡ accepted []
-allowed c = sym c.may_run.ensures ∙ ap ran_shown c.in-Done.is
+allowed : (c : In_ok-may_run) → run_answer c.args.words.now c.args.n ≡ accepted []
+allowed c = sym c.may_run.ensures ∙ ap done c.in_ok-may_run.was
 
-held : (c : In-Done) → Held 0 c.args.words.now
+held : (c : In_ok-may_run) → Held 0 c.args.words.now
 held c = saved_held _ (run_well_formed _ c.args.n [] (allowed c))
 
 -- what the replay on the copy says
@@ -33,45 +33,45 @@ told c =
     let s = c.args in
     c.replay_ticks.ensures.answer ∙ ap (λ (z : List ℕ). replay_told s.log.now s.n (state_of z)) c.overwrite.ensures
 
-pub returns-in-Refused : goal.returns-in-Refused
-returns-in-Refused c =
+pub returns-in_err-may_run : goal.returns-in_err-may_run
+returns-in_err-may_run c =
     let s = c.args in
-    let e = replay_refused s.words.now s.n s.log.now _ _ (sym c.may_run.ensures ∙ ap ran_shown c.in-Refused.is) in
-    record { answer = sym e.0; words = sym e.1 }
+    let e = replay_refused s.words.now s.n s.log.now _ _ (sym c.may_run.ensures ∙ ap done c.in_err-may_run.was) in
+    record { answer = passed_on _ _ c.from_residual.ensures.1 ∙ sym e.0; words = sym e.1 }
 
 pub fetch-patterns-requires : goal.fetch-patterns-requires
-fetch-patterns-requires c = held (goal.at.fetch-patterns-requires c).In-Done
+fetch-patterns-requires c = held (goal.at.fetch-patterns-requires c).In_ok-may_run
 
 pub overwrite-requires : goal.overwrite-requires
-overwrite-requires c = sym (words_long (held (goal.at.overwrite-requires c).In-Done).laid)
+overwrite-requires c = sym (words_long (held (goal.at.overwrite-requires c).In_ok-may_run).laid)
 
 pub replay_ticks-requires : goal.replay_ticks-requires
 replay_ticks-requires c =
     let w = c.args.words.now in
     let o = sym c.overwrite.ensures in (
-      subst (Held 0) o (held (goal.at.replay_ticks-requires c).In-Done),
-      subst (λ (z : List ℕ). (state_of z).time + c.args.n ≤ clock_end) o (omega (arith, time_word w, run_early w c.args.n [] (allowed (goal.at.replay_ticks-requires c).In-Done))),
+      subst (Held 0) o (held (goal.at.replay_ticks-requires c).In_ok-may_run),
+      subst (λ (z : List ℕ). (state_of z).time + c.args.n ≤ clock_end) o (omega (arith, time_word w, run_early w c.args.n [] (allowed (goal.at.replay_ticks-requires c).In_ok-may_run))),
       subst (λ (z : List ℕ). Fetched (state_of z).rows c.fetch-patterns.result) o c.fetch-patterns.ensures.0,
     )
 
-pub overwrite-requires-in-Done-replay_ticks : goal.overwrite-requires-in-Done-replay_ticks
-overwrite-requires-in-Done-replay_ticks c =
-    let l = words_long (held (goal.at.overwrite-requires-in-Done-replay_ticks c).In-Done).laid in
+pub overwrite-requires-in_ok-progress : goal.overwrite-requires-in_ok-progress
+overwrite-requires-in_ok-progress c =
+    let l = words_long (held (goal.at.overwrite-requires-in_ok-progress c).In_ok-may_run).laid in
     l ∙ sym (c.replay_ticks.auto.words ∙ ap length c.overwrite.ensures ∙ l)
 
-pub returns-in-Refused-replay_ticks : goal.returns-in-Refused-replay_ticks
-returns-in-Refused-replay_ticks c =
+pub returns-in_err-progress : goal.returns-in_err-progress
+returns-in_err-progress c =
     let s = c.args in
-    let e = sym (told (goal.at.returns-in-Refused-replay_ticks c).After-replay_ticks) ∙ ap replayed_shown c.in-Refused-replay_ticks.is in
-    record { answer = sym (replay_told_lem s.words.now s.n s.log.now (allowed (goal.at.returns-in-Refused-replay_ticks c).In-Done) ∙ e); words = sym (replay_bad s.words.now s.n s.log.now (allowed (goal.at.returns-in-Refused-replay_ticks c).In-Done) _ _ e) }
+    let e = sym (told (goal.at.returns-in_err-progress c).After-replay_ticks) ∙ ap replayed_shown c.in_err-progress.was in
+    record { answer = passed_on _ _ c.from_residual-in_err-progress.ensures.1 ∙ sym (replay_told_lem s.words.now s.n s.log.now (allowed (goal.at.returns-in_err-progress c).In_ok-may_run) ∙ e); words = sym (replay_bad s.words.now s.n s.log.now (allowed (goal.at.returns-in_err-progress c).In_ok-may_run) _ _ e) }
 
-pub returns-in-Done-replay_ticks : goal.returns-in-Done-replay_ticks
-returns-in-Done-replay_ticks c =
+pub returns-in_ok-progress : goal.returns-in_ok-progress
+returns-in_ok-progress c =
     let s = c.args in
-    let shows = ap replayed_shown c.in-Done-replay_ticks.is in
-    let e = sym (told (goal.at.returns-in-Done-replay_ticks c).After-replay_ticks) ∙ shows in record {
-      answer = sym (replay_told_lem s.words.now s.n s.log.now (allowed (goal.at.returns-in-Done-replay_ticks c).In-Done) ∙ e);
-      words = c.overwrite-in-Done-replay_ticks.ensures ∙ c.replay_ticks.ensures.words.is _ shows
+    let shows = ap replayed_shown c.in_ok-progress.was in
+    let e = sym (told (goal.at.returns-in_ok-progress c).After-replay_ticks) ∙ shows in record {
+      answer = sym (replay_told_lem s.words.now s.n s.log.now (allowed (goal.at.returns-in_ok-progress c).In_ok-may_run) ∙ e);
+      words = c.overwrite-in_ok-progress.ensures ∙ c.replay_ticks.ensures.words.is _ shows
           ∙ ap (λ (z : List ℕ). laid (replayed s.log.now s.n (state_of z)).state) c.overwrite.ensures
-          ∙ sym (replay_done s.words.now s.n s.log.now (allowed (goal.at.returns-in-Done-replay_ticks c).In-Done) _ e);
+          ∙ sym (replay_done s.words.now s.n s.log.now (allowed (goal.at.returns-in_ok-progress c).In_ok-may_run) _ e);
     }
