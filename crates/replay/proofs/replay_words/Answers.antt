@@ -13,7 +13,8 @@ use Rattle.law.proofs.Replay.{replay_refused, replay_told_lem, replay_bad, repla
 use Rattle.rows.specs.Said.{Held, Fetched}
 use Rattle.rows.proofs.Words.{words_long}
 use Rattle.tick.proofs.Chain.{time_word}
-use Rattle.dispatch.specs.Shown.{ran_shown}
+use Rattle.refusal.specs.Shown.{done}
+use Rattle.replay.proofs.Passed.{replay_passed_on}
 use Rattle.dispatch.proofs.Saved.{saved_held}
 use Rattle.replay.specs.Shown.{replayed_shown}
 use Rattle.replay.proofs.replay_words.Goals.{After-replay_ticks, In_ok-may_run}
@@ -37,7 +38,7 @@ pub returns-in_err-may_run : goal.returns-in_err-may_run
 returns-in_err-may_run c =
     let s = c.args in
     let e = replay_refused s.words.now s.n s.log.now _ _ (sym c.may_run.ensures ∙ ap done c.in_err-may_run.was) in
-    record { answer = passed_on _ _ c.from_residual.ensures.1 ∙ sym e.0; words = sym e.1 }
+    record { answer = replay_passed_on _ _ c.from_residual.ensures.1 ∙ sym e.0; words = sym e.1 }
 
 pub fetch-patterns-requires : goal.fetch-patterns-requires
 fetch-patterns-requires c = held (goal.at.fetch-patterns-requires c).In_ok-may_run
@@ -54,24 +55,24 @@ replay_ticks-requires c =
       subst (λ (z : List ℕ). Fetched (state_of z).rows c.fetch-patterns.result) o c.fetch-patterns.ensures.0,
     )
 
-pub overwrite-requires-in_ok-progress : goal.overwrite-requires-in_ok-progress
-overwrite-requires-in_ok-progress c =
-    let l = words_long (held (goal.at.overwrite-requires-in_ok-progress c).In_ok-may_run).laid in
+pub overwrite-requires-2 : goal.overwrite-requires-2
+overwrite-requires-2 c =
+    let l = words_long (held (goal.at.overwrite-requires-2 c).In_ok-may_run).laid in
     l ∙ sym (c.replay_ticks.auto.words ∙ ap length c.overwrite.ensures ∙ l)
 
 pub returns-in_err-progress : goal.returns-in_err-progress
 returns-in_err-progress c =
     let s = c.args in
     let e = sym (told (goal.at.returns-in_err-progress c).After-replay_ticks) ∙ ap replayed_shown c.in_err-progress.was in
-    record { answer = passed_on _ _ c.from_residual-in_err-progress.ensures.1 ∙ sym (replay_told_lem s.words.now s.n s.log.now (allowed (goal.at.returns-in_err-progress c).In_ok-may_run) ∙ e); words = sym (replay_bad s.words.now s.n s.log.now (allowed (goal.at.returns-in_err-progress c).In_ok-may_run) _ _ e) }
+    record { answer = replay_passed_on _ _ c.from_residual-in_err-progress.ensures.1 ∙ sym (replay_told_lem s.words.now s.n s.log.now (allowed (goal.at.returns-in_err-progress c).In_ok-may_run) ∙ e); words = sym (replay_bad s.words.now s.n s.log.now (allowed (goal.at.returns-in_err-progress c).In_ok-may_run) _ _ e) }
 
-pub returns-in_ok-progress : goal.returns-in_ok-progress
-returns-in_ok-progress c =
+pub returns : goal.returns
+returns c =
     let s = c.args in
     let shows = ap replayed_shown c.in_ok-progress.was in
-    let e = sym (told (goal.at.returns-in_ok-progress c).After-replay_ticks) ∙ shows in record {
-      answer = sym (replay_told_lem s.words.now s.n s.log.now (allowed (goal.at.returns-in_ok-progress c).In_ok-may_run) ∙ e);
-      words = c.overwrite-in_ok-progress.ensures ∙ c.replay_ticks.ensures.words.is _ shows
+    let e = sym (told (goal.at.returns c).After-replay_ticks) ∙ shows in record {
+      answer = sym (replay_told_lem s.words.now s.n s.log.now (allowed (goal.at.returns c).In_ok-may_run) ∙ e);
+      words = c.overwrite-2.ensures ∙ c.replay_ticks.ensures.words.is _ shows
           ∙ ap (λ (z : List ℕ). laid (replayed s.log.now s.n (state_of z)).state) c.overwrite.ensures
-          ∙ sym (replay_done s.words.now s.n s.log.now (allowed (goal.at.returns-in_ok-progress c).In_ok-may_run) _ e);
+          ∙ sym (replay_done s.words.now s.n s.log.now (allowed (goal.at.returns c).In_ok-may_run) _ e);
     }
