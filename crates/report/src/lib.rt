@@ -4,7 +4,7 @@
 ghost use Rattle.std.specs.Prelude.{◌≡◌, length};
 ghost use Rattle.law.specs.Report.{printed, report_answer, report_room};
 ghost use Rattle.line.specs.Put.{put_at};
-ghost use Rattle.report.specs.Shown.{shown};
+ghost use Rattle.refusal.specs.Shown.{answered};
 
 pub mod print;
 
@@ -14,14 +14,7 @@ use line::refused::put_refusal;
 use print::print_run;
 use refusal::Refusal;
 use table::WIDTH;
-use text::read::{Reading, read};
-
-// The length of what is printed, or that the room is too short for it.
-#[derive(Clone, Copy)]
-pub enum Printed {
-    Length(usize),
-    Refused(Refusal),
-}
+use text::read::read;
 
 // All that is printed, put into a run of bytes that has room for every answer.
 fn print_all(input: &[u8], out: &mut [u8]) -> usize
@@ -35,21 +28,21 @@ fn print_all(input: &[u8], out: &mut [u8]) -> usize
     };
     let mut words = [0u32; 224];
     match read(&input[next..], &mut words) {
-        Reading::Rows(rows) => print_run(out, &words[..rows * WIDTH], ticks as u32),
-        Reading::Refused(r) => put_refusal(out, r, next as u64),
+        Ok(rows) => print_run(out, &words[..rows * WIDTH], ticks as u32),
+        Err(r) => put_refusal(out, r, next as u64),
     }
 }
 
-// What the printing program prints for an input of any length, in the first bytes of a lent room.
-pub fn report(input: &[u8], room: &mut [u8]) -> Printed
-    ensures answer { shown result ≡ report_answer input.now (length room.old) }
+// What the printing program prints for an input of any length, in the first bytes of a lent room: its length, or that the room is too short for it.
+pub fn report(input: &[u8], room: &mut [u8]) -> Result<usize, Refusal>
+    ensures answer { answered result ≡ report_answer input.now (length room.old) }
     ensures room { room.new ≡ report_room input.now room.old }
 {
     let mut out = [0u8; 5632];
     let length = print_all(input, &mut out);
     if room.len() < length {
-        return Printed::Refused(Refusal::Room);
+        return Err(Refusal::Room);
     }
     put_bytes(room, 0, &out[..length]);
-    Printed::Length(length)
+    Ok(length)
 }

@@ -12,9 +12,8 @@ use dispatch::counts::{Counts, counts_of};
 use dispatch::run::run_words;
 use dispatch::start::fresh_words;
 use line::put::{put_bytes, put_line};
-use refusal::also;
 use table::{WIDTH, task_at};
-use verdict::{Verdict, judge};
+use verdict::judge;
 
 // The lines of a row: its number, id, response time and room, its counts and spare.
 fn print_row(out: &mut [u8], at: usize, i: usize, id: u64, r: u64, room: u64, c: Counts) -> usize
@@ -43,10 +42,10 @@ fn print_verdict(out: &mut [u8], words: &[u32], times: &mut [u32]) -> usize
     ensures times { Responded (table_of words.now) times.new }
 {
     match judge(words, times) {
-        Verdict::Admitted(_) => put_bytes(out, 0, b"verdict=admitted\n"),
-        Verdict::Refused(r) => {
+        Ok(_) => put_bytes(out, 0, b"verdict=admitted\n"),
+        Err(r) => {
             let at = put_bytes(out, 0, b"verdict=unschedulable\n");
-            put_line(out, at, b"at=", also(r))
+            put_line(out, at, b"at=", r.place_or_zero())
         }
     }
 }
@@ -84,18 +83,19 @@ fn print_rows(
 }
 
 // A table, its verdict, and its state after so many ticks from fresh. The rooms are asked for by themselves, since a table turned down has them too.
+// Nothing is refused: the words are a table, and the rooms and the state are long enough.
 pub(crate) fn print_run(out: &mut [u8], words: &[u32], ticks: u32) -> usize
     requires { (length out.old ≡ 5632) × (Good words.now) }
     ensures place { result ≡ length (run_printed (table_of words.now) ticks) }
     ensures bytes { out.new ≡ put_at out.old 0 (run_printed (table_of words.now) ticks) }
 {
     let mut rooms = [0u32; 32];
-    verdict::rooms(words, &mut rooms);
+    let _ = verdict::rooms(words, &mut rooms);
     let mut times = [0u32; 32];
     let mut at = print_verdict(out, words, &mut times);
     let mut state = [0u64; 643];
-    fresh_words(words, &mut state);
-    run_words(&mut state, ticks);
+    let _ = fresh_words(words, &mut state);
+    let _ = run_words(&mut state, ticks);
     at = put_line(out, at, b"ticks=", ticks as u64);
     at = put_line(out, at, b"idle=", state[2]);
     print_rows(out, at, words, &times, &rooms, &state)

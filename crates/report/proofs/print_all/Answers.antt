@@ -19,10 +19,10 @@ use Rattle.law.proofs.Report.{printed_unread, printed_refused, printed_run}
 use Rattle.law.proofs.TextSmall.{refused_small}
 use Rattle.refusal.specs.Shown.{number_of, also_of}
 use Rattle.line.specs.Said.{said, place_of}
-use Rattle.text.specs.Said.{shown}
+use Rattle.refusal.specs.Shown.{answered}
 use Rattle.line.specs.Put.{put_at}
 use Rattle.report.specs.Said.{Good}
-use Rattle.report.proofs.print_all.Goals.{After-line_at-answer, After-place, After-read, In-Is, In-Refused, In-Rows, In_default}
+use Rattle.report.proofs.print_all.Goals.{After-line_at-answer, After-place, After-read, In-Is, In-Err, In-Ok, In_default}
 use Rattle.report.proofs.print_all.Goals as goal
 
 abbrev input : After-line_at-answer → List ℕ
@@ -47,33 +47,33 @@ all-behind n l = take_all (length l - n) (drop n l) (omega (arith, length-drop n
 abbrev text : After-read → List ℕ
 text r = drop r.in-Is.next (r.args.input.now)
 
-reading : (r : After-read) → shown r.read.result ≡ read_answer (text r) 224
+reading : (r : After-read) → answered r.read.result ≡ read_answer (text r) 224
 reading r = r.read.ensures.answer ∙ ap (λ (z : List ℕ). read_answer z 224) (all-behind r.in-Is.next (r.args.input.now))
 
 filled : (r : After-read) → r.read.new.room ≡ read_room (text r) (replicate 224 0)
 filled r =
     r.read.ensures.room ∙ ap (λ (z : List ℕ). read_room z (replicate 224 0)) (all-behind r.in-Is.next (r.args.input.now))
 
-good : (w : In-Rows) → read_answer (drop w.in-Is.next (w.args.input.now)) 224 ≡ accepted (w.in-Rows.rows ∷ [])
-good w = sym (sym (ap shown w.in-Rows.is) ∙ (w.read.ensures.answer ∙ ap (λ (z : List ℕ). read_answer z 224) (all-behind w.in-Is.next (w.args.input.now))))
+good : (w : In-Ok) → read_answer (drop w.in-Is.next (w.args.input.now)) 224 ≡ accepted (w.in-Ok.rows ∷ [])
+good w = sym (sym (ap answered w.in-Ok.is) ∙ (w.read.ensures.answer ∙ ap (λ (z : List ℕ). read_answer z 224) (all-behind w.in-Is.next (w.args.input.now))))
 
-trip : (w : In-Rows) → Trip (drop w.in-Is.next (w.args.input.now)) 224 (w.in-Rows.rows ∷ [])
+trip : (w : In-Ok) → Trip (drop w.in-Is.next (w.args.input.now)) 224 (w.in-Ok.rows ∷ [])
 trip w = read_write (drop w.in-Is.next (w.args.input.now)) 224 _ (good w)
 
-whole-rows : (w : In-Rows) → length (words_read row_keys (drop w.in-Is.next (w.args.input.now))) ≡ w.in-Rows.rows * 7
+whole-rows : (w : In-Ok) → length (words_read row_keys (drop w.in-Is.next (w.args.input.now))) ≡ w.in-Ok.rows * 7
 whole-rows w = let t = trip w in t.whole ∙ ap (λ (z : List ℕ). head z * 7) (sym t.rows)
 
-laid : (w : In-Rows) → w.read.new.room ≡ words_read row_keys (drop w.in-Is.next (w.args.input.now)) ++ drop (length (words_read row_keys (drop w.in-Is.next (w.args.input.now)))) (replicate 224 0)
+laid : (w : In-Ok) → w.read.new.room ≡ words_read row_keys (drop w.in-Is.next (w.args.input.now)) ++ drop (length (words_read row_keys (drop w.in-Is.next (w.args.input.now)))) (replicate 224 0)
 laid w = (w.read.ensures.room ∙ ap (λ (z : List ℕ). read_room z (replicate 224 0)) (all-behind w.in-Is.next (w.args.input.now))) ∙ read_filled (drop w.in-Is.next (w.args.input.now)) (replicate 224 0) (good w)
 
-front : (w : In-Rows) → take (w.in-Rows.rows * 7) w.read.new.room ≡ words_read row_keys (drop w.in-Is.next (w.args.input.now))
+front : (w : In-Ok) → take (w.in-Ok.rows * 7) w.read.new.room ≡ words_read row_keys (drop w.in-Is.next (w.args.input.now))
 front w =
-    ap (take (w.in-Rows.rows * 7)) (laid w)
-    ∙ take_at (words_read row_keys (drop w.in-Is.next (w.args.input.now))) _ (w.in-Rows.rows * 7) (whole-rows w)
+    ap (take (w.in-Ok.rows * 7)) (laid w)
+    ∙ take_at (words_read row_keys (drop w.in-Is.next (w.args.input.now))) _ (w.in-Ok.rows * 7) (whole-rows w)
 
 -- a refused one
-refusedOf : (r : In-Refused) → read_answer (drop r.in-Is.next (r.args.input.now)) 224 ≡ refused (number_of r.in-Refused.r) (also_of r.in-Refused.r)
-refusedOf r = sym (sym (ap shown r.in-Refused.is) ∙ (r.read.ensures.answer ∙ ap (λ (z : List ℕ). read_answer z 224) (all-behind r.in-Is.next (r.args.input.now))))
+refusedOf : (r : In-Err) → read_answer (drop r.in-Is.next (r.args.input.now)) 224 ≡ refused (number_of r.in-Err.r) (also_of r.in-Err.r)
+refusedOf r = sym (sym (ap answered r.in-Err.is) ∙ (r.read.ensures.answer ∙ ap (λ (z : List ℕ). read_answer z 224) (all-behind r.in-Is.next (r.args.input.now))))
 
 pub put_refusal-requires : goal.put_refusal-requires
 put_refusal-requires c =
@@ -93,35 +93,35 @@ pub slice_bounds-read-start : goal.slice_bounds-read-start
 slice_bounds-read-start c = inside (goal.at.slice_bounds-read-start c).In-Is
 
 pub overflow_mul-words : goal.overflow_mul-words
-overflow_mul-words c = omega (arith, whole-rows (goal.at.overflow_mul-words c).In-Rows, (trip (goal.at.overflow_mul-words c).In-Rows).fits)
+overflow_mul-words c = omega (arith, whole-rows (goal.at.overflow_mul-words c).In-Ok, (trip (goal.at.overflow_mul-words c).In-Ok).fits)
 
 pub slice_bounds-words-end : goal.slice_bounds-words-end
 slice_bounds-words-end c =
-    omega (arith, ap length (laid (goal.at.slice_bounds-words-end c).In-Rows), length-append (words_read row_keys (text (goal.at.slice_bounds-words-end c).After-read)) (drop (length (words_read row_keys (text (goal.at.slice_bounds-words-end c).After-read))) (replicate 224 0)), whole-rows (goal.at.slice_bounds-words-end c).In-Rows)
+    omega (arith, ap length (laid (goal.at.slice_bounds-words-end c).In-Ok), length-append (words_read row_keys (text (goal.at.slice_bounds-words-end c).After-read)) (drop (length (words_read row_keys (text (goal.at.slice_bounds-words-end c).After-read))) (replicate 224 0)), whole-rows (goal.at.slice_bounds-words-end c).In-Ok)
 
 pub slice_bounds-print_run-end : goal.slice_bounds-print_run-end
-slice_bounds-print_run-end c = sym (ap length (front (goal.at.slice_bounds-print_run-end c).In-Rows) ∙ whole-rows (goal.at.slice_bounds-print_run-end c).In-Rows)
+slice_bounds-print_run-end c = sym (ap length (front (goal.at.slice_bounds-print_run-end c).In-Ok) ∙ whole-rows (goal.at.slice_bounds-print_run-end c).In-Ok)
 
 pub overflow_cast-ticks : goal.overflow_cast-ticks
 overflow_cast-ticks c = omega (arith, line_small _ 0 ticks_key (line (goal.at.overflow_cast-ticks c).In-Is))
 
 pub print_run-requires : goal.print_run-requires
 print_run-requires c =
-    (c.requires, subst Good (sym (front (goal.at.print_run-requires c).In-Rows)) (record { values = _; is = (trip (goal.at.print_run-requires c).In-Rows).good }))
+    (c.requires, subst Good (sym (front (goal.at.print_run-requires c).In-Ok)) (record { values = _; is = (trip (goal.at.print_run-requires c).In-Ok).good }))
 
-pub put_refusal-requires-in-Refused : goal.put_refusal-requires-in-Refused
-put_refusal-requires-in-Refused c = (
+pub put_refusal-requires-in-Err : goal.put_refusal-requires-in-Err
+put_refusal-requires-in-Err c = (
   omega (arith, c.requires),
-  omega (arith, refused_small _ 224 _ _ (refusedOf (goal.at.put_refusal-requires-in-Refused c).In-Refused), line_reach (input (goal.at.put_refusal-requires-in-Refused c).After-line_at-answer) 0 ticks_key, ap reached (line (goal.at.put_refusal-requires-in-Refused c).In-Is)),
+  omega (arith, refused_small _ 224 _ _ (refusedOf (goal.at.put_refusal-requires-in-Err c).In-Err), line_reach (input (goal.at.put_refusal-requires-in-Err c).After-line_at-answer) 0 ticks_key, ap reached (line (goal.at.put_refusal-requires-in-Err c).In-Is)),
 )
 
-pub returns-in-Rows : goal.returns-in-Rows
-returns-in-Rows c =
-    let e : run_printed (table_of (take (c.in-Rows.rows * 7) c.read.new.room)) c.in-Is.ticks ≡ printed (input (goal.at.returns-in-Rows c).After-line_at-answer) =
-    ap (λ (z : List ℕ). run_printed (table_of z) c.in-Is.ticks) (front (goal.at.returns-in-Rows c).In-Rows) ∙ sym (printed_run (input (goal.at.returns-in-Rows c).After-line_at-answer) (line (goal.at.returns-in-Rows c).In-Is) (good (goal.at.returns-in-Rows c).In-Rows)) in
+pub returns-in-Ok : goal.returns-in-Ok
+returns-in-Ok c =
+    let e : run_printed (table_of (take (c.in-Ok.rows * 7) c.read.new.room)) c.in-Is.ticks ≡ printed (input (goal.at.returns-in-Ok c).After-line_at-answer) =
+    ap (λ (z : List ℕ). run_printed (table_of z) c.in-Is.ticks) (front (goal.at.returns-in-Ok c).In-Ok) ∙ sym (printed_run (input (goal.at.returns-in-Ok c).After-line_at-answer) (line (goal.at.returns-in-Ok c).In-Is) (good (goal.at.returns-in-Ok c).In-Ok)) in
     record { place = c.print_run.ensures.place ∙ ap length e; bytes = c.print_run.ensures.bytes ∙ ap (put_at _ 0) e }
 
-pub returns-in-Refused : goal.returns-in-Refused
-returns-in-Refused c =
-    let e = sym (printed_refused (input (goal.at.returns-in-Refused c).After-line_at-answer) (line (goal.at.returns-in-Refused c).In-Is) (refusedOf (goal.at.returns-in-Refused c).In-Refused)) in
-    record { place = c.put_refusal-in-Refused.ensures.place ∙ ap length e; bytes = c.put_refusal-in-Refused.ensures.bytes ∙ ap (put_at _ 0) e }
+pub returns-in-Err : goal.returns-in-Err
+returns-in-Err c =
+    let e = sym (printed_refused (input (goal.at.returns-in-Err c).After-line_at-answer) (line (goal.at.returns-in-Err c).In-Is) (refusedOf (goal.at.returns-in-Err c).In-Err)) in
+    record { place = c.put_refusal-in-Err.ensures.place ∙ ap length e; bytes = c.put_refusal-in-Err.ensures.bytes ∙ ap (put_at _ 0) e }
