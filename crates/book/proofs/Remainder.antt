@@ -5,6 +5,7 @@ use Prim.Native.Nat.{ℕ, suc, ◌-◌, ◌*◌, ◌/◌, ◌%◌, ◌≤◌, �
 use native.Mathlib.Decide.{dec_lt}
 use native.Mathlib.Nat.{div-add-mod', mod-lt, suc-mul}
 use native.Mathlib.Omega.{arith}
+use lib.Dec.{eqb, ltb}
 use borrow.Author.Tests.{eq-eqb, ne_eqb, lt-ltb, le-ltb}
 use Rattle.law.specs.Sums.{ceil}
 use Rattle.law.specs.Pattern.{InRange, mandatory}
@@ -46,6 +47,17 @@ module _ (m k a : ℕ) (h : InRange m k) where
       mandatory_no m k m_some h.m_high a
       (rw (next e) (omega (arith, div-add-mod' (a * m) k, suc-mul (a * m / k) k, h.m_high)))
 
+  -- the rule's two tests, one after the other
+  pub nothing_left : a * m % k ≡ 0 → eqb (a * m % k) 0 ≡ mandatory m k a
+  nothing_left e = rw (eq-eqb (a * m % k) 0 e, at_none e)
+
+  pub something_left : (a * m % k ≡ 0 → ⊥) → ltb (k - m) (a * m % k) ≡ mandatory m k a
+  something_left n =
+      elim (dec_lt (k - m) (a * m % k)) [
+        | yes q ↦ rw (lt-ltb (k - m) (a * m % k) q, above q)
+        | no q ↦ rw (le-ltb (k - m) (a * m % k) (omega arith), between (omega arith) (omega arith))
+      ]
+
   -- Document 02, 6/14: "The question answers as before"
   pub one_remainder : by_remainder m k a ≡ mandatory m k a
   unfolding by_remainder
@@ -53,8 +65,6 @@ module _ (m k a : ℕ) (h : InRange m k) where
       elim (dec_lt 0 (a * m % k)) [
         | no p ↦ let e : a * m % k ≡ 0 = omega arith in rw (eq-eqb (a * m % k) 0 e, at_none e)
         | yes p ↦
-            elim (dec_lt (k - m) (a * m % k)) [
-              | yes q ↦ rw (ne_eqb (a * m % k) 0 (λ (e : a * m % k ≡ 0). omega arith), lt-ltb (k - m) (a * m % k) q, above q)
-              | no q ↦ rw (ne_eqb (a * m % k) 0 (λ (e : a * m % k ≡ 0). omega arith), le-ltb (k - m) (a * m % k) (omega arith), between p (omega arith))
-            ]
+            let n : a * m % k ≡ 0 → ⊥ = λ (e : a * m % k ≡ 0). omega arith in
+            rw (ne_eqb (a * m % k) 0 n) (something_left n)
       ]

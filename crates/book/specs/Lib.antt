@@ -1,2 +1,3 @@
+pub mod Pair
 pub mod Shown
 pub mod Remainder

@@ -1,57 +1,26 @@
 // The pattern book, and the question about one job.
 #![tactic(auto)]
 
-ghost use Rattle.std.specs.Prelude.{[], ◌≡◌, ◌<◌, ◌≤◌, ◌-◌, ◌/◌, ◌%◌, ◌^◌, eqb};
+ghost use Rattle.std.specs.Prelude.{[], ◌∷◌, ◌≡◌, ◌<◌, ◌≤◌, ◌-◌, ◌/◌, ◌%◌, ◌^◌, eqb};
 ghost use Rattle.law.specs.Refusal.{accepted};
-ghost use Rattle.law.specs.Pattern.{InRange, the_book, word, mandatory, pair_checked, pair_word, question};
-ghost use Rattle.book.specs.Shown.{job_shown, word_shown, pair_shown};
+ghost use Rattle.law.specs.Pattern.{InRange, the_book, pair_word, question};
+ghost use Rattle.refusal.specs.Shown.{answered};
+ghost use Rattle.book.specs.Shown.{job_shown};
 
 mod words;
 
 use refusal::{Refusal, is_within};
 use words::BOOK;
 
-// What is known of one job.
-#[derive(Clone, Copy)]
-pub enum Job {
-    Mandatory,
-    Optional,
-    Refused(Refusal),
-}
-
-// The word of a pair.
-#[derive(Clone, Copy)]
-pub enum Word {
-    Is(u64),
-    Refused(Refusal),
-}
-
-// The whole book. The constant is laid on the stack at each use: who wants many words lays it once.
-pub fn the_book() -> [u64; 2080]
-    ensures { result ≡ the_book }
+// The whole book, where the program holds it: nothing is laid on the stack.
+pub fn the_book() -> &'static [u64; 2080]
+    ensures { result.now ≡ the_book }
 {
-    BOOK
-}
-
-// The word of a pair in a book that is laid.
-pub fn word_in(book: &[u64; 2080], m: u64, k: u64) -> u64
-    requires { (book.now ≡ the_book) × (InRange m k) }
-    ensures { result ≡ word m k }
-{
-    let place = k * (k - 1) / 2 + m - 1;
-    book[place as usize]
-}
-
-// The word of a pair.
-fn pattern(m: u64, k: u64) -> u64
-    requires { InRange m k }
-    ensures { result ≡ word m k }
-{
-    let book = the_book();
-    word_in(&book, m, k)
+    &BOOK
 }
 
 // The word whose first n bits are set, and no other: a deeply-red pattern with n of any k, and a window of n met marks.
+#[tactic(auto, using(law::proofs::Window::cut_is))]
 pub fn low_bits(n: u64) -> u64
     requires { (1 ≤ n) × (n ≤ 64) }
     ensures { result ≡ 2 ^ n - 1 }
@@ -67,60 +36,67 @@ pub fn bit_at(pattern: u64, place: u64) -> bool
     (pattern >> place) % 2 == 1
 }
 
-// Whether a pair that a caller offers is in range, or why not.
-#[derive(Clone, Copy)]
-enum Pair {
-    Good,
-    Refused(Refusal),
+// A pair in range: m mandatory jobs out of k.
+#[derive(Clone, Copy, Debug, PartialEq, Eq)]
+pub struct Pair {
+    pub m: u64,
+    pub k: u64,
+    ghost in_range: { InRange m k },
 }
 
-// The tests of a pair that a caller offers, k first.
-fn pair_checked(m: u32, k: u32) -> Pair
-    ensures { pair_shown result ≡ pair_checked m k (accepted []) }
-{
-    let wide_k = k as u64;
-    if !is_within(1, 64, wide_k) {
-        return Pair::Refused(Refusal::K(0));
+impl Pair {
+    ghost use Rattle.law.specs.Pattern.{word, mandatory, pair_checked};
+    ghost use Rattle.book.specs.Pair.{pair_shown};
+
+    // The pair that a caller offers, or why it is none. k is looked at first.
+    #[tactic(auto, using(law::proofs::Question::pair_k, law::proofs::Question::pair_m, law::proofs::Question::pair_good, law::proofs::Question::in_range))]
+    pub fn new(m: u32, k: u32) -> Result<Self, Refusal>
+        ensures { pair_shown result ≡ pair_checked m k (accepted (m ∷ k ∷ [])) }
+    {
+        let m = m as u64;
+        let k = k as u64;
+        if !is_within(1, 64, k) {
+            return Err(Refusal::K(0));
+        }
+        if !is_within(1, k, m) {
+            return Err(Refusal::M(0));
+        }
+        Ok(Pair { m, k })
     }
-    if !is_within(1, wide_k, m as u64) {
-        return Pair::Refused(Refusal::M(0));
+
+    // The word of the pair.
+    #[tactic(auto, unfolding(law::specs::Pattern::place_of), using(law::proofs::Book::book_at))]
+    pub fn word(self) -> u64
+        ensures { result ≡ word self.m self.k }
+    {
+        let place = self.k * (self.k - 1) / 2 + self.m - 1;
+        the_book()[place as usize]
     }
-    Pair::Good
+
+    // Whether a job is mandatory, by one remainder and without the book: the tuner asks several hundred times a second. A remainder from 1 to k - m
+    // is that of an optional job. The product of a 32-bit number and one of at most 64 is taken in 64 bits: it can't wrap.
+    #[tactic(auto, using(crate::proofs::Remainder::nothing_left, crate::proofs::Remainder::something_left))]
+    fn is_mandatory(self, job: u32) -> bool
+        ensures { result ≡ mandatory self.m self.k job }
+    {
+        let remainder = job as u64 * self.m % self.k;
+        let most = self.k - self.m;
+        remainder == 0 || most < remainder
+    }
 }
 
 // The word of a pair that a caller offers.
-pub fn word_of(m: u32, k: u32) -> Word
-    ensures { word_shown result ≡ pair_word m k }
+#[tactic(auto, unfolding(law::specs::Pattern::pair_word), using(crate::proofs::Pairs::refused_so, crate::proofs::Pairs::taken_so))]
+pub fn word_of(m: u32, k: u32) -> Result<u64, Refusal>
+    ensures { answered result ≡ pair_word m k }
 {
-    match pair_checked(m, k) {
-        Pair::Good => Word::Is(pattern(m as u64, k as u64)),
-        Pair::Refused(refusal) => Word::Refused(refusal),
-    }
-}
-
-// Whether a job is mandatory, by one remainder and without the book: the tuner asks several hundred times a second. A remainder from 1 to k - m
-// is that of an optional job. The product of a 32-bit number and one of at most 64 is taken in 64 bits: it can't wrap.
-fn is_mandatory(m: u32, k: u32, job: u32) -> bool
-    requires { InRange m k }
-    ensures { result ≡ mandatory m k job }
-{
-    let remainder = job as u64 * m as u64 % k as u64;
-    let most = (k - m) as u64;
-    remainder == 0 || most < remainder
+    Ok(Pair::new(m, k)?.word())
 }
 
 // Is job number `job` of a task with m out of k mandatory?
-pub fn ask(m: u32, k: u32, job: u32) -> Job
+#[tactic(auto, unfolding(law::specs::Pattern::question), using(crate::proofs::Pairs::refused_so, crate::proofs::Pairs::taken_so))]
+pub fn ask(m: u32, k: u32, job: u32) -> Result<bool, Refusal>
     ensures { job_shown result ≡ question m k job }
 {
-    match pair_checked(m, k) {
-        Pair::Good => {
-            if is_mandatory(m, k, job) {
-                Job::Mandatory
-            } else {
-                Job::Optional
-            }
-        }
-        Pair::Refused(refusal) => Job::Refused(refusal),
-    }
+    Ok(Pair::new(m, k)?.is_mandatory(job))
 }

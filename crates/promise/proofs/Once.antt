@@ -1,19 +1,17 @@
 -- Two results that a public contract allows are equal: each answer enum can be told from what its reading as an answer says, so an equation of the
 -- reading leaves one result; and a state by value is told by its words.
+use mathlib.Core.Bool.{Bool, true, false}
 use mathlib.Core.List.{List}
 use mathlib.Core.Path.{◌≡◌, refl, sym, ap, ◌∙◌}
 use Prim.Native.Nat.{ℕ}
 use lib.Dec.{eqb}
+use Rattle.std.specs.Prelude.{Result, Ok, Err}
 use Rattle.law.specs.Sums.{pick}
 use Rattle.law.specs.Refusal.{Answer, accepted, refused, head, second}
 use Rattle.refusal.specs.Shown as refusal
 use Rattle.refusal.specs.declared.Refusal.{Refusal}
 use Rattle.refusal.specs.declared.Refusal.TheVariants.{NotWholeRows, NoRows, ManyRows, Id, T, D, C, K, M, Repeated, Unschedulable, Text, Room, State, Clock, P, NotOld, Log}
 use Rattle.book.specs.Shown as book
-use Rattle.book.specs.declared.Job.{Job}
-use Rattle.book.specs.declared.Job.TheVariants.{Mandatory, Optional, Refused as JobRefused}
-use Rattle.book.specs.declared.Word.{Word}
-use Rattle.book.specs.declared.Word.TheVariants.{Is, Refused as WordRefused}
 use Rattle.table.specs.Said as table
 use Rattle.table.specs.declared.Checked.{Checked}
 use Rattle.table.specs.declared.Checked.TheVariants.{Rows as CheckedRows, Refused as CheckedRefused}
@@ -102,13 +100,13 @@ measured_told (MeasuredRefused r) = ap MeasuredRefused (refusal_told r)
 pub measured_once : {x y : Measured} → verdict.measured x ≡ verdict.measured y → x ≡ y
 measured_once = once verdict.measured (back MeasuredRows MeasuredRefused) measured_told
 
-word_told : (x : Word) → back Is WordRefused (book.word_shown x) ≡ x
+word_told : (x : Result ℕ Refusal) → back Ok Err (refusal.answered x) ≡ x
 unfolding back
-word_told (Is w) = refl
-word_told (WordRefused r) = ap WordRefused (refusal_told r)
+word_told (Ok w) = refl
+word_told (Err r) = ap Err (refusal_told r)
 
-pub word_once : {x y : Word} → book.word_shown x ≡ book.word_shown y → x ≡ y
-word_once = once book.word_shown (back Is WordRefused) word_told
+pub word_once : {x y : Result ℕ Refusal} → refusal.answered x ≡ refusal.answered y → x ≡ y
+word_once = once refusal.answered (back Ok Err) word_told
 
 read_told : (x : Reading) → back ReadRows ReadRefused (read.shown x) ≡ x
 unfolding back
@@ -158,14 +156,14 @@ ran_told (RanRefused r) = ap RanRefused (refusal_told r)
 pub ran_once : {x y : Ran} → dispatch.ran_shown x ≡ dispatch.ran_shown y → x ≡ y
 ran_once = once dispatch.ran_shown (back (λ v. Done) RanRefused) ran_told
 
-job_told : (x : Job) → back (λ v. pick (eqb v 1) Mandatory Optional) JobRefused (book.job_shown x) ≡ x
+job_told : (x : Result Bool Refusal) → back (λ v. Ok (eqb v 1)) Err (book.job_shown x) ≡ x
 unfolding back
-job_told Mandatory = refl
-job_told Optional = refl
-job_told (JobRefused r) = ap JobRefused (refusal_told r)
+job_told (Ok true) = refl
+job_told (Ok false) = refl
+job_told (Err r) = ap Err (refusal_told r)
 
-pub job_once : {x y : Job} → book.job_shown x ≡ book.job_shown y → x ≡ y
-job_once = once book.job_shown (back (λ v. pick (eqb v 1) Mandatory Optional) JobRefused) job_told
+pub job_once : {x y : Result Bool Refusal} → book.job_shown x ≡ book.job_shown y → x ≡ y
+job_once = once book.job_shown (back (λ v. Ok (eqb v 1)) Err) job_told
 
 -- the one that has two values
 replay_back : Answer → Replayed

@@ -16,7 +16,6 @@ ghost use Rattle.dispatch.specs.Shown.{ran_shown};
 ghost use Rattle.text.specs.Written.{shown as written_shown};
 ghost use Rattle.stand_c.specs.Numbered.{numbered, numbered_two};
 
-use book::{Job, Word};
 use dispatch::held::Marks;
 use dispatch::run::Ran;
 use dispatch::start::Started;
@@ -62,15 +61,15 @@ pub extern "C" fn gp_job(m: u32, k: u32, job: u32) -> Answer
     ensures { result ≡ numbered (question m k job) }
 {
     match book::ask(m, k, job) {
-        Job::Mandatory => Answer {
+        Ok(true) => Answer {
             refusal: 0,
             value: 1,
         },
-        Job::Optional => Answer {
+        Ok(false) => Answer {
             refusal: 0,
             value: 0,
         },
-        Job::Refused(r) => refused(r),
+        Err(r) => refused(r),
     }
 }
 
@@ -80,11 +79,11 @@ pub extern "C" fn gp_word(m: u32, k: u32) -> Answer
     ensures { result ≡ numbered (pair_word m k) }
 {
     match book::word_of(m, k) {
-        Word::Is(word) => Answer {
+        Ok(word) => Answer {
             refusal: 0,
             value: word,
         },
-        Word::Refused(r) => refused(r),
+        Err(r) => refused(r),
     }
 }
 

@@ -2,7 +2,6 @@
 use crate::numbers::{low_at, part_of, words_of};
 use crate::show;
 use crate::show::BEFORE;
-use book::{Job, Word};
 use std::io;
 use std::io::Write;
 use table::Checked;
@@ -11,17 +10,16 @@ use verdict::{Measured, Verdict};
 // `1 m k job`: 1 for mandatory, 0 for optional.
 pub(crate) fn job<W: Write>(out: &mut W, case: &[u64]) -> io::Result<()> {
     match book::ask(low_at(case, 1), low_at(case, 2), low_at(case, 3)) {
-        Job::Mandatory => show::accepted(out, 1),
-        Job::Optional => show::accepted(out, 0),
-        Job::Refused(r) => show::refused(out, r),
+        Ok(mandatory) => show::accepted(out, u64::from(mandatory)),
+        Err(r) => show::refused(out, r),
     }
 }
 
 // `2 m k`: the pattern word.
 pub(crate) fn word<W: Write>(out: &mut W, case: &[u64]) -> io::Result<()> {
     match book::word_of(low_at(case, 1), low_at(case, 2)) {
-        Word::Is(word) => show::accepted(out, word),
-        Word::Refused(r) => show::refused(out, r),
+        Ok(word) => show::accepted(out, word),
+        Err(r) => show::refused(out, r),
     }
 }
 

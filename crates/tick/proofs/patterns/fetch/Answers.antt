@@ -48,7 +48,7 @@ loop-i-init c =
 pub pattern_of-requires : goal.pattern_of-requires
 pattern_of-requires c =
     let f = c.loop-i.invariant in
-    (c.the_book-book.ensures, f.held, omega (arith, f.total, c.loop-i-test.true))
+    (f.held, omega (arith, f.total, c.loop-i-test.true))
 
 pub offset_bounds-patterns-i : goal.offset_bounds-patterns-i
 offset_bounds-patterns-i c = let f = c.loop-i.invariant in omega (arith, f.total, f.held.laid.few)
