@@ -123,7 +123,7 @@ fn table_clean(words: &[u64], rows: usize) -> bool
 {
     let mut i = 0;
     while i < rows {
-        if row_fault(task_of(words, i), is_repeated(words, rows, i)) != 0 {
+        if row_fault(task_of(words, i), is_repeated(words, rows, i)).is_some() {
             return false;
         }
         i += 1;

@@ -1,7 +1,7 @@
 // A task table: a lent run of 32-bit words, seven to a row, and its checks in their order.
 #![tactic(auto)]
 
-ghost use Rattle.std.specs.Prelude.{◌≡◌, [], ◌∷◌, ◌++◌, ◌+◌, ◌*◌, ◌/◌, ◌<◌, ◌≤◌, length, get_or, take, drop, IfOk};
+ghost use Rattle.std.specs.Prelude.{◌≡◌, [], ◌∷◌, ◌++◌, ◌+◌, ◌*◌, ◌/◌, ◌<◌, ◌≤◌, length, get_or, take, drop, unwrap_or, IfSome, IfOk};
 ghost use Rattle.law.specs.Refusal.{refused};
 ghost use Rattle.law.specs.Table.{task_at, table_of, repeated, RowNumber, fault_of, rows_checked, checked};
 ghost use Rattle.refusal.specs.Shown.{shown, answered};
@@ -10,7 +10,7 @@ ghost use Rattle.table.specs.Said.{task_said};
 use refusal::{Refusal, is_within};
 
 // A row, by its words.
-#[derive(Clone, Copy)]
+#[derive(Clone, Copy, Debug, PartialEq, Eq)]
 pub struct Task {
     pub id: u64,
     pub c: u64,
@@ -24,62 +24,60 @@ pub struct Task {
 // The words of a row.
 pub const WIDTH: usize = 7;
 
-// Word j of a row.
-fn word(words: &[u32], row: usize, j: usize) -> u64
-    requires { (row < length words.now / 7) × (j < 7) }
-    ensures { result ≡ get_or words.now (row * 7 + j) 0 }
-{
-    words[row * WIDTH + j] as u64
-}
-
 // A row of a table: the one place that knows the order of a row's words.
+#[tactic(auto, unfolding(law::specs::Table::task_of))]
 pub fn task_at(words: &[u32], row: usize) -> Task
     requires { row < length words.now / 7 }
     ensures { task_said result ≡ task_at words.now row }
 {
+    let at = row * WIDTH;
+    let &[id, c, t, d, m, k, p] = &words[at..at + WIDTH] else {
+        unreachable!()
+    };
     Task {
-        id: word(words, row, 0),
-        c: word(words, row, 1),
-        t: word(words, row, 2),
-        d: word(words, row, 3),
-        m: word(words, row, 4),
-        k: word(words, row, 5),
-        p: word(words, row, 6),
+        id: id as u64,
+        c: c as u64,
+        t: t as u64,
+        d: d as u64,
+        m: m as u64,
+        k: k as u64,
+        p: p as u64,
     }
 }
 
-// The number of the first refusal that applies to a row, 0 where none does; `twice` tells whether its id stands in an earlier row.
+// The number of the first refusal that applies to a row; `twice` tells whether its id stands in an earlier row.
 #[tactic(auto, unfolding(law::specs::Table::fault_of))]
-pub fn row_fault(r: Task, twice: bool) -> u64
-    ensures { result ≡ fault_of (task_said r) twice }
+pub fn row_fault(r: Task, twice: bool) -> Option<u64>
+    ensures number { unwrap_or result 0 ≡ fault_of (task_said r) twice }
+    ensures fault { IfSome result RowNumber }
 {
     if !is_within(1, 65535, r.id) {
-        return 4;
+        return Some(4);
     }
     if !is_within(1, 65535, r.t) {
-        return 5;
+        return Some(5);
     }
     if !is_within(1, r.t, r.d) {
-        return 6;
+        return Some(6);
     }
     if !is_within(1, 65535, r.c) {
-        return 7;
+        return Some(7);
     }
     if !is_within(1, 64, r.k) {
-        return 8;
+        return Some(8);
     }
     if !is_within(1, r.k, r.m) {
-        return 9;
+        return Some(9);
     }
     // p is neither even nor deeply-red
     let other = 1 < r.p;
     if other {
-        return 16;
+        return Some(16);
     }
     if twice {
-        return 10;
+        return Some(10);
     }
-    0
+    None
 }
 
 // The refusal of a row, by its number.
@@ -100,39 +98,37 @@ fn row_refusal(number: u64, row: u64) -> Refusal
 }
 
 // Whether a row's id stands in an earlier row.
+#[tactic(auto, using(crate::proofs::Earlier::new_at_first, crate::proofs::Earlier::new_to_next, crate::proofs::Earlier::repeated_at, crate::proofs::Earlier::new_to_end))]
 fn is_repeated(words: &[u32], row: usize) -> bool
     requires { row < length words.now / 7 }
     ensures { result ≡ repeated (table_of words.now) row }
 {
     let id = task_at(words, row).id;
-    let mut j = 0;
-    while j < row {
+    for j in 0..row {
         if task_at(words, j).id == id {
             return true;
         }
-        j += 1;
     }
     false
 }
 
 // The rows of a table, from the first on.
+#[tactic(auto, using(crate::proofs::Faults::clean_at_first, crate::proofs::Faults::clean_to_end))]
 fn check_rows(words: &[u32]) -> Result<usize, Refusal>
     ensures answer { answered result ≡ rows_checked (table_of words.now) }
     ensures rows { IfOk result (λ n. n ≡ length words.now / 7) }
 {
     let rows = words.len() / WIDTH;
-    let mut i = 0;
-    while i < rows {
-        let number = row_fault(task_at(words, i), is_repeated(words, i));
-        if number != 0 {
+    for i in 0..rows {
+        if let Some(number) = row_fault(task_at(words, i), is_repeated(words, i)) {
             return Err(row_refusal(number, i as u64));
         }
-        i += 1;
     }
     Ok(rows)
 }
 
 // Whether a lent run of words, of any length, is a task table: the first refusal that applies, or the number of rows.
+#[tactic(auto, unfolding(law::specs::Table::checked))]
 pub fn check(words: &[u32]) -> Result<usize, Refusal>
     ensures answer { answered result ≡ checked words.now }
     ensures rows { IfOk result (λ n. n ≡ length words.now / 7) }
@@ -155,9 +151,5 @@ pub fn lay(words: &[u32], n: usize, room: &mut [u32])
     requires { (n ≤ length words.now) × (n ≤ length room.old) }
     ensures { room.new ≡ take n words.now ++ drop n room.old }
 {
-    let mut i = 0;
-    while i < n {
-        room[i] = words[i];
-        i += 1;
-    }
+    room[..n].copy_from_slice(&words[..n]);
 }
