@@ -1,9 +1,9 @@
 // A task table: a lent run of 32-bit words, seven to a row, and its checks in their order.
 #![tactic(auto)]
 
-ghost use Rattle.std.specs.Prelude.{◌≡◌, [], ◌∷◌, ◌++◌, ◌+◌, ◌*◌, ◌/◌, ◌<◌, ◌≤◌, length, get_or, take, drop, unwrap_or, IfSome, IfOk};
-ghost use Rattle.law.specs.Refusal.{refused};
-ghost use Rattle.law.specs.Table.{task_at, table_of, repeated, RowNumber, fault_of, rows_checked, checked};
+ghost use Rattle.std.specs.Prelude.{◌≡◌, [], ◌∷◌, ◌++◌, ◌+◌, ◌*◌, ◌/◌, ◌<◌, ◌≤◌, length, get_or, take, drop, unwrap_or, IfSome, IfOk, IfErr};
+ghost use Rattle.law.specs.Refusal.{accepted, refused};
+ghost use Rattle.law.specs.Table.{WellFormed, task_at, table_of, row, repeated, RowNumber, fault_of, rows_checked, checked};
 ghost use Rattle.refusal.specs.Shown.{shown, answered};
 ghost use Rattle.table.specs.Said.{task_said};
 
@@ -144,6 +144,43 @@ pub fn check(words: &[u32]) -> Result<usize, Refusal>
         return Err(Refusal::ManyRows);
     }
     check_rows(words)
+}
+
+// A run of words that is a task table.
+#[derive(Clone, Copy)]
+pub struct Table<'a> {
+    pub words: &'a [u32],
+    pub ghost well_formed: { WellFormed (table_of words.now) },
+}
+
+impl<'a> Table<'a> {
+    // The table in a lent run of words, where the check accepts it.
+    #[tactic(auto, using(law::proofs::Table::checked_accepted))]
+    pub fn new(words: &'a [u32]) -> Result<Table<'a>, Refusal>
+        ensures words { IfOk result (λ table. table.words.now ≡ words.now) }
+        ensures accepted { IfOk result (λ table. checked words.now ≡ accepted (length (table_of words.now) ∷ [])) }
+        ensures refused { IfErr result (λ refusal. checked words.now ≡ shown refusal) }
+    {
+        check(words)?;
+        Ok(Table { words })
+    }
+
+    // The number of rows.
+    #[tactic(auto, using(law::proofs::Table::table_length))]
+    pub fn rows(self) -> usize
+        ensures { result ≡ length (table_of self.entry.words.now) }
+    {
+        self.words.len() / WIDTH
+    }
+
+    // Row i.
+    #[tactic(auto, using(law::proofs::Table::table_length, law::proofs::Table::table_row))]
+    pub fn task(self, i: usize) -> Task
+        requires { i < length (table_of self.words.now) }
+        ensures { task_said result ≡ row (table_of self.entry.words.now) i }
+    {
+        task_at(self.words, i)
+    }
 }
 
 // The first n words of a run, laid into the start of a lent room.
