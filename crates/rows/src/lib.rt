@@ -4,7 +4,6 @@
 ghost use Rattle.std.specs.Prelude.{◌≡◌, ◌+◌, ◌*◌, ◌<◌, length, get_or, set};
 ghost use Rattle.law.specs.State.{row_at, sets_from, words_of};
 ghost use Rattle.table.specs.Said.{task_said};
-ghost use Rattle.tally.specs.Said.{tally_said};
 ghost use Rattle.rows.specs.Said.{row_said};
 
 pub mod steps;
@@ -19,8 +18,18 @@ pub const STRIDE: usize = 20;
 
 pub const STATE_WORDS: usize = 643;
 
+// The words of a row that a tick reads or stores by themselves: ticks until the next release, the live job's work left, ticks left to its
+// deadline, and its kind.
+pub const WAIT: usize = 7;
+
+pub const WORK: usize = 9;
+
+pub const LEFT: usize = 10;
+
+pub const KIND: usize = 11;
+
 // A state by value: the same words that a firmware saves.
-#[derive(Clone, Copy)]
+#[derive(Clone, Copy, Debug, PartialEq, Eq)]
 pub struct State {
     pub words: [u64; 643],
 }
@@ -37,6 +46,37 @@ pub struct Row {
     pub tally: Tally,
 }
 
+impl Row {
+    // The words of a row, in the order of a saved state.
+    #[tactic(auto, unfolding(law::specs::State::words_of))]
+    fn words(self) -> [u64; 20]
+        ensures { result ≡ words_of (row_said self) }
+    {
+        [
+            self.task.id,
+            self.task.c,
+            self.task.t,
+            self.task.d,
+            self.task.m,
+            self.task.k,
+            self.task.p,
+            self.wait,
+            self.place,
+            self.work,
+            self.left,
+            self.kind,
+            self.tally.window,
+            self.tally.released,
+            self.tally.mm,
+            self.tally.mx,
+            self.tally.om,
+            self.tally.ox,
+            self.tally.broken,
+            self.tally.held,
+        ]
+    }
+}
+
 // Word j of row i.
 pub fn word(words: &[u64], i: usize, j: usize) -> u64
     requires { (length words.now ≡ 643) × (i < 32) × (j < 20) }
@@ -45,50 +85,69 @@ pub fn word(words: &[u64], i: usize, j: usize) -> u64
     words[i * STRIDE + (HEAD + j)]
 }
 
+// The task of row i, its first seven words.
+#[tactic(auto, unfolding(law::specs::State::row_of, law::specs::Table::task_of))]
 pub fn task_of(words: &[u64], i: usize) -> Task
     requires { (length words.now ≡ 643) × (i < 32) }
     ensures { task_said result ≡ (row_at words.now i).core.task }
 {
+    let at = i * STRIDE + HEAD;
+    let &[id, c, t, d, m, k, p] = &words[at..at + WAIT] else {
+        unreachable!()
+    };
     Task {
-        id: word(words, i, 0),
-        c: word(words, i, 1),
-        t: word(words, i, 2),
-        d: word(words, i, 3),
-        m: word(words, i, 4),
-        k: word(words, i, 5),
-        p: word(words, i, 6),
-    }
-}
-
-fn tally_of(words: &[u64], i: usize) -> Tally
-    requires { (length words.now ≡ 643) × (i < 32) }
-    ensures { tally_said result ≡ (row_at words.now i).tally }
-{
-    Tally {
-        window: word(words, i, 12),
-        released: word(words, i, 13),
-        mm: word(words, i, 14),
-        mx: word(words, i, 15),
-        om: word(words, i, 16),
-        ox: word(words, i, 17),
-        broken: word(words, i, 18),
-        held: word(words, i, 19),
+        id,
+        c,
+        t,
+        d,
+        m,
+        k,
+        p,
     }
 }
 
 // Row i of a state's words.
+#[tactic(auto, unfolding(law::specs::State::row_of))]
 pub fn row_at(words: &[u64], i: usize) -> Row
     requires { (length words.now ≡ 643) × (i < 32) }
     ensures { row_said result ≡ row_at words.now i }
 {
+    let at = i * STRIDE + HEAD;
+    let &[
+        wait,
+        place,
+        work,
+        left,
+        kind,
+        window,
+        released,
+        mm,
+        mx,
+        om,
+        ox,
+        broken,
+        held,
+    ] = &words[at + WAIT..at + STRIDE]
+    else {
+        unreachable!()
+    };
     Row {
         task: task_of(words, i),
-        wait: word(words, i, 7),
-        place: word(words, i, 8),
-        work: word(words, i, 9),
-        left: word(words, i, 10),
-        kind: word(words, i, 11),
-        tally: tally_of(words, i),
+        wait,
+        place,
+        work,
+        left,
+        kind,
+        tally: Tally {
+            window,
+            released,
+            mm,
+            mx,
+            om,
+            ox,
+            broken,
+            held,
+        },
     }
 }
 
@@ -97,35 +156,16 @@ pub fn put_row(words: &mut [u64], i: usize, r: Row)
     requires { (length words.old ≡ 643) × (i < 32) }
     ensures { words.new ≡ sets_from words.old (i * 20) 3 (words_of (row_said r)) }
 {
-    let at = i * STRIDE;
-    words[at + 3] = r.task.id;
-    words[at + 4] = r.task.c;
-    words[at + 5] = r.task.t;
-    words[at + 6] = r.task.d;
-    words[at + 7] = r.task.m;
-    words[at + 8] = r.task.k;
-    words[at + 9] = r.task.p;
-    words[at + 10] = r.wait;
-    words[at + 11] = r.place;
-    words[at + 12] = r.work;
-    words[at + 13] = r.left;
-    words[at + 14] = r.kind;
-    words[at + 15] = r.tally.window;
-    words[at + 16] = r.tally.released;
-    words[at + 17] = r.tally.mm;
-    words[at + 18] = r.tally.mx;
-    words[at + 19] = r.tally.om;
-    words[at + 20] = r.tally.ox;
-    words[at + 21] = r.tally.broken;
-    words[at + 22] = r.tally.held;
+    let at = i * STRIDE + HEAD;
+    words[at..at + STRIDE].copy_from_slice(&r.words());
 }
 
-// Another wait, word 7 of row i.
+// Another wait of row i.
 pub fn put_wait(words: &mut [u64], i: usize, wait: u64)
     requires { (length words.old ≡ 643) × (i < 32) }
     ensures { words.new ≡ set words.old (i * 20 + 10) wait }
 {
-    words[i * STRIDE + 10] = wait;
+    words[i * STRIDE + (HEAD + WAIT)] = wait;
 }
 
 // Another wait, work and time left of row i: the words that a tick which settles nothing there changes.
@@ -134,7 +174,7 @@ pub fn put_going(words: &mut [u64], i: usize, wait: u64, work: u64, left: u64)
     ensures { words.new ≡ set (set (set words.old (i * 20 + 10) wait) (i * 20 + 12) work) (i * 20 + 13) left }
 {
     let at = i * STRIDE;
-    words[at + 10] = wait;
-    words[at + 12] = work;
-    words[at + 13] = left;
+    words[at + (HEAD + WAIT)] = wait;
+    words[at + (HEAD + WORK)] = work;
+    words[at + (HEAD + LEFT)] = left;
 }

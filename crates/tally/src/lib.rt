@@ -1,15 +1,14 @@
 // One row's tally: its window with the number of its met marks, its counts, and the settling routine that amends them.
 #![tactic(auto)]
 
-ghost use Rattle.std.specs.Prelude.{◌≡◌, ◌-◌, ◌<◌, ◌≤◌, ◌^◌, eqb, ltb};
-ghost use Rattle.law.specs.Sums.{bit, both};
-ghost use Rattle.law.specs.Pattern.{InRange};
-ghost use Rattle.law.specs.Tick.{shifted, marks, spare as spare_law, settled};
-ghost use Rattle.tally.specs.Said.{tally_said, Countable};
+ghost use Rattle.std.specs.Prelude.{◌≡◌, ◌-◌, ◌<◌, ◌≤◌, ◌^◌};
+ghost use Rattle.law.specs.Tick.{shifted, marks, spare as spare_law};
+
+use book::Pair;
 
 // The window, newest mark in bit 0; the counts: released, mandatory met and missed, optional met and missed, broken windows; and the number of
 // met marks that the window holds.
-#[derive(Clone, Copy)]
+#[derive(Clone, Copy, Debug, PartialEq, Eq)]
 pub struct Tally {
     pub window: u64,
     pub released: u64,
@@ -22,6 +21,7 @@ pub struct Tally {
 }
 
 // The window of k marks after one more: the newest is bit 0, the mark that reaches bit k is cut.
+#[tactic(auto, using(law::proofs::Window::shift_is))]
 fn shift(window: u64, mark: u64, k: u64) -> u64
     requires { (1 ≤ k) × (k ≤ 64) × (mark ≤ 1) }
     ensures { result ≡ shifted k window mark }
@@ -31,6 +31,7 @@ fn shift(window: u64, mark: u64, k: u64) -> u64
 }
 
 // The met marks of a window, counted: for a tally that comes from outside. Settling amends the number that is kept.
+#[tactic(auto, using(law::proofs::Window::marks_are_ones))]
 pub fn marks_in(window: u64, k: u64) -> u64
     requires { window < 2 ^ k }
     ensures { result ≡ marks k window }
@@ -38,32 +39,15 @@ pub fn marks_in(window: u64, k: u64) -> u64
     u64::count_ones(window) as u64
 }
 
-// 1 where both numbers are those looked for, else 0.
-fn one_if(kind: u64, of: u64, mark: u64, is: u64) -> u64
-    ensures { (result ≡ bit (both (eqb kind of) (eqb mark is))) × (result ≤ 1) }
-{
-    if kind == of {
-        if mark == is { 1 } else { 0 }
-    } else {
-        0
-    }
-}
-
 // The number of met marks after one more mark: the mark that comes in is added, and the mark that is cut, bit k - 1, is taken off. In
 // this order the difference is never below 0.
+#[tactic(auto, using(law::proofs::Window::marks_most, law::proofs::Window::marks_amended))]
 fn amend(held: u64, window: u64, mark: u64, k: u64) -> u64
     requires { (1 ≤ k) × (k ≤ 64) × (mark ≤ 1) × (held ≡ marks k window) }
     ensures { result ≡ marks k (shifted k window mark) }
 {
     let cut = window >> (k - 1) & 1;
     held + mark - cut
-}
-
-// 1 where fewer than m met marks are held, else 0.
-fn one_if_short(held: u64, m: u64) -> u64
-    ensures { (result ≡ bit (ltb held m)) × (result ≤ 1) }
-{
-    if held < m { 1 } else { 0 }
 }
 
 // How many further misses in a row the task can bear. From the newest mark on, marks are taken in until m of them are met: the n marks not taken
@@ -73,52 +57,47 @@ pub fn spare(window: u64, m: u64, k: u64) -> u64
     ensures { result ≡ spare_law m k window }
 {
     let mut met = 0;
-    let mut n = k;
-    while met < m {
-        if n == 0 {
-            return 0;
+    for taken in 0..k {
+        if m <= met {
+            return k - taken;
         }
-        met += window >> (k - n) & 1;
-        n -= 1;
+        met += window >> taken & 1;
     }
-    n
+    0
 }
 
-// The tally after a job of that kind is settled, with mark 1 for met and 0 for missed: the window shifts, the number of its met marks is
-// amended, one count goes up, and a window that then holds fewer than m met marks is counted as broken.
-fn settle(y: Tally, kind: u64, mark: u64, m: u64, k: u64) -> Tally
-    requires { (InRange m k) × (mark ≤ 1) × (Countable k (tally_said y)) }
-    ensures { tally_said result ≡ settled m k kind mark (tally_said y) }
-{
-    let window = shift(y.window, mark, k);
-    let held = amend(y.held, y.window, mark, k);
-    Tally {
-        window,
-        released: y.released,
-        mm: y.mm + one_if(kind, 1, mark, 1),
-        mx: y.mx + one_if(kind, 1, mark, 0),
-        om: y.om + one_if(kind, 0, mark, 1),
-        ox: y.ox + one_if(kind, 0, mark, 0),
-        broken: y.broken + one_if_short(held, m),
-        held,
+impl Tally {
+    ghost use Rattle.law.specs.Sums.{bit};
+    ghost use Rattle.law.specs.Tick.{settled};
+    ghost use Rattle.tally.specs.Said.{tally_said, Countable};
+
+    // The tally after a job of that kind is settled, met or missed: the window shifts, the number of its met marks is amended, one count goes
+    // up, and a window that then holds fewer than m met marks is counted as broken.
+    #[tactic(auto, unfolding(law::specs::Tick::settled))]
+    fn settled(self, kind: u64, met: bool, pair: Pair) -> Self
+        requires { Countable pair.k (tally_said self) }
+        ensures { tally_said result ≡ settled pair.m pair.k kind (bit met) (tally_said self) }
+    {
+        let mark = u64::from(met);
+        let window = shift(self.window, mark, pair.k);
+        let held = amend(self.held, self.window, mark, pair.k);
+        Tally {
+            window,
+            released: self.released,
+            mm: self.mm + u64::from(kind == 1 && met),
+            mx: self.mx + u64::from(kind == 1 && !met),
+            om: self.om + u64::from(kind == 0 && met),
+            ox: self.ox + u64::from(kind == 0 && !met),
+            broken: self.broken + u64::from(held < pair.m),
+            held,
+        }
     }
-}
 
-// The settling routine: it is lent a row's tally and amends it.
-fn settle_in(y: &mut Tally, kind: u64, mark: u64, m: u64, k: u64)
-    requires { (InRange m k) × (mark ≤ 1) × (Countable k (tally_said y.old)) }
-    ensures { tally_said y.new ≡ settled m k kind mark (tally_said y.old) }
-{
-    let next = settle(*y, kind, mark, m, k);
-    *y = next;
-}
-
-// The same by value: a tally of its own is lent to the settling routine and handed back.
-pub fn settle_lent(y: Tally, kind: u64, mark: u64, m: u64, k: u64) -> Tally
-    requires { (InRange m k) × (mark ≤ 1) × (Countable k (tally_said y)) }
-    ensures { tally_said result ≡ settled m k kind mark (tally_said y) }
-{
-    let mut lent = y;
-    settle_in(&mut lent, kind, mark, m, k);
-    lent
+    // The settling routine: it is lent a row's tally and amends it.
+    pub fn settle(&mut self, kind: u64, met: bool, pair: Pair)
+        requires { Countable pair.k (tally_said self.old) }
+        ensures { tally_said self.new ≡ settled pair.m pair.k kind (bit met) (tally_said self.old) }
+    {
+        *self = self.settled(kind, met, pair);
+    }
 }

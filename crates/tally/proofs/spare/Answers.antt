@@ -1,59 +1,38 @@
--- `tally::spare` meets its contract: the marks taken in are the newest k - n, and spare is still to come, from n down.
+-- `tally::spare` meets its contract: the newest marks are taken in, and spare is still to come, from the number of the others down.
+use mathlib.Core.Bool.{Bool}
 use mathlib.Core.Path.{◌≡◌, sym, ap, ◌∙◌}
-use Prim.Native.Nat.{ℕ, suc, ◌+◌, ◌-◌, ◌/◌, ◌%◌, ◌^◌}
+use Rattle.std.proofs.Common.{add-one}
+use Prim.Native.Nat.{ℕ, ◌+◌, ◌-◌, ◌≤◌}
+use native.Mathlib.Nat.{sub-zero}
 use native.Mathlib.Omega.{arith}
-use lib.Bits.{bit_and, and_mask}
+use lib.Dec.{leb}
 use borrow.Author.Tests.{le-leb, lt-leb}
-use Rattle.law.specs.Tick.{marks, spare}
+use Rattle.law.specs.Tick.{marks, spare, still_hold}
 use Rattle.law.proofs.First.{down_start, down_hit, down_end, down_next}
-use Rattle.law.proofs.Window.{marks_none, marks_next, marks_most}
+use Rattle.law.proofs.Window.{marks_none, marks_next}
 use Rattle.tally.proofs.spare.Goals as goal
 
-pub loop-met-init : goal.loop-met-init
-loop-met-init c =
-    let a = c.args in
-    let none : 0 ≡ a.k - a.k = omega arith in
-    (down_start _ _, sym (marks_none a.window) ∙ ap (λ (z : ℕ). marks z a.window) none)
+-- the test of the marks that were taken in
+tested : (m k window taken : ℕ) (b : Bool) → taken ≤ k → leb m (marks taken window) ≡ b → still_hold m k window (k - taken) ≡ b
+tested m k window taken b h t =
+    let e : k - (k - taken) ≡ taken = omega arith in
+    ap (λ (z : ℕ). leb m (marks z window)) e ∙ t
 
-pub returns-then-n-eq0 : goal.returns-then-n-eq0
+pub loop-taken-init : goal.loop-taken-init
+loop-taken-init c = (rw (sub-zero c.args.k) (down_start _ _), sym (marks_none c.args.window))
+
+pub returns-then-m-met : goal.returns-then-m-met
 unfolding spare
-returns-then-n-eq0 c = sym (down_end c.loop-met.invariant.0 c.if-n-eq0.true)
+returns-then-m-met c =
+    let l = c.loop-taken in
+    sym (down_hit l.invariant.0 (tested c.args.m c.args.k c.args.window l.taken _ (omega arith) (le-leb _ _ (omega (arith, l.invariant.1)))))
 
-pub overflow_sub-met : goal.overflow_sub-met
-overflow_sub-met c = omega (arith, c.loop-met.invariant.0.reached, c.if-n-eq0.false)
-
-pub overflow_shr-met : goal.overflow_shr-met
-overflow_shr-met c = omega (arith, c.requires, c.loop-met.invariant.0.reached, c.if-n-eq0.false)
-
--- a mark is 0 or 1, whichever is read
-mark-low : (x : ℕ) → bit_and x 1 ≡ x % 2
-mark-low x = and_mask x 1
-
-pub overflow_add-met : goal.overflow_add-met
-overflow_add-met c =
-    let l = c.loop-met in
-    let a = c.args in
-    simp mark-low (omega (arith, l.invariant.1, marks_most (a.k - l.n) a.window, c.requires))
-
-pub overflow_sub-n : goal.overflow_sub-n
-overflow_sub-n c = omega (arith, c.if-n-eq0.false)
-
-pub loop-met-smaller : goal.loop-met-smaller
-loop-met-smaller c = omega (arith, c.if-n-eq0.false)
-
-pub loop-met-preserved : goal.loop-met-preserved
-loop-met-preserved c =
-    let l = c.loop-met in
-    let a = c.args in
-    let short = lt-leb a.m (marks (a.k - l.n) a.window) (omega (arith, l.invariant.1, c.loop-met-test.true)) in
-    let more : suc (a.k - l.n) ≡ a.k - (l.n - 1) = omega (arith, l.invariant.0.reached, c.if-n-eq0.false) in
-    let taken : l.met + bit_and (a.window / 2 ^ (a.k - l.n)) 1 ≡ marks (suc (a.k - l.n)) a.window
-    = omega (arith, l.invariant.1, marks_next (a.k - l.n) a.window) in
-    (down_next l.invariant.0 (l.n - 1) (omega (arith, c.if-n-eq0.false)) short, taken ∙ ap (λ (z : ℕ). marks z a.window) more)
+pub loop-taken-preserved : goal.loop-taken-preserved
+loop-taken-preserved c =
+    let l = c.loop-taken in
+    let short = tested c.args.m c.args.k c.args.window l.taken _ (omega arith) (lt-leb _ _ (omega (arith, l.invariant.1))) in
+    (down_next l.invariant.0 (c.args.k - (l.taken + 1)) (omega arith) short, rw add-one (omega (arith, l.invariant.1, marks_next l.taken c.args.window)))
 
 pub returns : goal.returns
 unfolding spare
-returns c =
-    let l = c.loop-met in
-    let a = c.args in
-    sym (down_hit l.invariant.0 (le-leb a.m (marks (a.k - l.n) a.window) (omega (arith, l.invariant.1, c.loop-met-test.false))))
+returns c = sym (down_end c.loop-taken.invariant.0 (omega arith))
