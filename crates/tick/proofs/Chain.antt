@@ -1,9 +1,13 @@
 -- From one routine of a tick to the next: what the words are after each, and that the whole is the law's tick.
-use mathlib.Core.Bool.{Bool}
+use mathlib.Core.Bool.{Bool, true, false, not}
 use mathlib.Core.List.{List}
 use mathlib.Core.Path.{◌≡◌, refl, sym, ap, ◌∙◌, subst}
 use Prim.Native.Nat.{ℕ, ◌+◌, ◌<◌}
+use native.Mathlib.Decide.{ℕ_discrete}
 use native.Mathlib.Omega.{arith}
+use borrow.Author.Tests.{eq-eqb, ne_eqb}
+use Rattle.std.proofs.Common.{Option, None, Some, IfSome}
+use Rattle.std.specs.Option.{is_some, unwrap_or, option_eq}
 use lib.Dec.{eqb}
 use lib.ListN.{length, get_or, set}
 use Rattle.law.specs.Sums.{bit}
@@ -55,13 +59,26 @@ module _ {w₁ w₂ : List ℕ} (h : Held 1 w₁) (chosen : ℕ) (advanced : w�
   pub advanced_idle : (state_of w₂).idle ≡ (state_of w₁).idle
   advanced_idle = ap (λ (z : State). z.idle) (says (advanced_state chosen (state_of w₁)) advanced)
 
-  pub finished : {w₃ : List ℕ} (rows : ℕ) → chosen ≡ choose (state_of w₁).rows → rows ≡ length (state_of w₁).rows
-      → w₃ ≡ laid (counted_tick (eqb chosen rows) (state_of w₂)) → w₃ ≡ laid (finish (state_of w₁))
+  pub finished : {w₃ : List ℕ} (idle : Bool) → chosen ≡ choose (state_of w₁).rows → idle ≡ eqb chosen (length (state_of w₁).rows)
+      → w₃ ≡ laid (counted_tick idle (state_of w₂)) → w₃ ≡ laid (finish (state_of w₁))
   unfolding finish
-  finished rows ec er e =
-      e ∙ ap (λ (z : State). laid (counted_tick (eqb chosen rows) z)) (says (advanced_state chosen (state_of w₁)) advanced)
-      ∙ ap (λ (z : ℕ). laid (counted_tick (eqb chosen z) (advanced_state chosen (state_of w₁)))) er
+  finished idle ec ei e =
+      e ∙ ap (λ (z : State). laid (counted_tick idle z)) (says (advanced_state chosen (state_of w₁)) advanced)
+      ∙ ap (λ (z : Bool). laid (counted_tick z (advanced_state chosen (state_of w₁)))) ei
       ∙ ap (λ (z : ℕ). laid (counted_tick (eqb z (length (state_of w₁).rows)) (advanced_state z (state_of w₁)))) ec
+
+-- the tick is idle where no row is chosen
+pub none_chosen : (chosen : Option ℕ) (rows : ℕ) (idle : Bool) → IfSome chosen (λ i. i < rows) → is_some chosen ≡ not idle → idle ≡ eqb (unwrap_or chosen rows) rows
+none_chosen None rows true h e = sym (eq-eqb rows rows refl)
+none_chosen None rows false h e = absurd (cc e)
+none_chosen (Some i) rows false h e = sym (ne_eqb i rows (λ e. omega (arith, h)))
+none_chosen (Some i) rows true h e = absurd (cc e)
+
+-- whether row i is the chosen one
+pub row_chosen : (chosen : Option ℕ) (rows i : ℕ) → i < rows → option_eq eqb chosen (Some i) ≡ eqb i (unwrap_or chosen rows)
+row_chosen None rows i h = sym (ne_eqb i rows (λ e. omega arith))
+row_chosen (Some j) rows i h =
+    elim (ℕ_discrete j i) [ yes e ↦ eq-eqb j i e ∙ sym (eq-eqb i j (sym e)) | no e ↦ ne_eqb j i e ∙ sym (ne_eqb i j (λ z. e (sym z))) ]
 
 -- all of a tick
 pub ticked_with : (w₀ : List ℕ) {w₁ w₂ : List ℕ} (work : ℕ → ℕ) → w₁ ≡ laid (begin work (state_of w₀)) → w₂ ≡ laid (finish (state_of w₁))

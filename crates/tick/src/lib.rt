@@ -1,7 +1,8 @@
 // One tick over all rows of a state's words: release, choose, work and settle.
 #![tactic(auto)]
 
-ghost use Rattle.std.specs.Prelude.{◌≡◌, ◌+◌, ◌≤◌, ◌<◌, eqb, ltb, length, get_or};
+ghost use Rattle.std.specs.Prelude.{◌≡◌, ◌+◌, ◌≤◌, ◌<◌, eqb, ltb, length, get_or, Some, IfSome};
+ghost use Rattle.std.specs.Option.{is_none, unwrap_or};
 ghost use Rattle.law.specs.Sums.{bit, both, pick};
 ghost use Rattle.law.specs.Table.{word_of};
 ghost use Rattle.law.specs.Tick.{no_row, core_at, release_row, advance_row, choose as choose_law, full_length, begin, finish as finish_law, tick as tick_law, run as run_law, clock_end};
@@ -79,41 +80,34 @@ fn advance_one(words: &mut [u64], i: usize, chosen: bool)
 fn is_urgent(work: u64, kind: u64) -> bool
     ensures { result ≡ both (ltb 0 work) (eqb kind 1) }
 {
-    if work == 0 {
-        return false;
-    }
-    kind == 1
+    work > 0 && kind == 1
 }
 
 // The first live row: the one found before, or row i if it has work left.
-fn earlier(found: usize, rows: usize, i: usize, work: u64) -> usize
-    ensures { result ≡ pick (both (eqb found rows) (ltb 0 work)) i found }
+fn earlier(found: Option<usize>, i: usize, work: u64) -> Option<usize>
+    ensures { result ≡ pick (both (is_none found) (ltb 0 work)) (Some i) found }
 {
-    if found == rows {
-        if work == 0 {
-            return found;
-        }
-        return i;
+    if found.is_none() && work > 0 {
+        Some(i)
+    } else {
+        found
     }
-    found
 }
 
-// Step 2: the mandatory live job of the highest row; if there is none, the optional one of the highest row; if none, the number of rows.
+// Step 2: the mandatory live job of the highest row; if there is none, the optional one of the highest row; if none, the tick is idle.
 // Words 9 and 11 of a row are its live job's work and kind.
-fn choose(words: &[u64]) -> usize
+fn choose(words: &[u64]) -> Option<usize>
     requires { Laid words.now }
-    ensures { result ≡ choose_law (state_of words.now).rows }
+    ensures row { unwrap_or result (length (state_of words.now).rows) ≡ choose_law (state_of words.now).rows }
+    ensures inside { IfSome result (λ i. i < length (state_of words.now).rows) }
 {
-    let rows = rows_of(words);
-    let mut optional = rows;
-    let mut i = 0;
-    while i < rows {
+    let mut optional = None;
+    for i in 0..rows_of(words) {
         let work = word(words, i, 9);
         if is_urgent(work, word(words, i, 11)) {
-            return i;
+            return Some(i);
         }
-        optional = earlier(optional, rows, i, work);
-        i += 1;
+        optional = earlier(optional, i, work);
     }
     optional
 }
@@ -123,24 +117,18 @@ fn release_all(words: &mut [u64], patterns: &[u64])
     requires { (Held 0 words.old) × ((state_of words.old).time < clock_end) × (Fetched (state_of words.old).rows patterns.now) }
     ensures { words.new ≡ laid (begin (full_length (state_of words.old).rows) (state_of words.old)) }
 {
-    let rows = rows_of(words);
-    let mut i = 0;
-    while i < rows {
+    for i in 0..rows_of(words) {
         release_one(words, i, patterns[i]);
-        i += 1;
     }
 }
 
-// Steps 3 and 4 for every row, with the row that was chosen.
-fn advance_all(words: &mut [u64], chosen: usize)
-    requires { Held 1 words.old }
-    ensures { words.new ≡ laid (advanced_state chosen (state_of words.old)) }
+// Steps 3 and 4 for every row, with the row that was chosen, if any.
+fn advance_all(words: &mut [u64], chosen: Option<usize>)
+    requires { (Held 1 words.old) × (IfSome chosen (λ i. i < length (state_of words.old).rows)) }
+    ensures { words.new ≡ laid (advanced_state (unwrap_or chosen (length (state_of words.old).rows)) (state_of words.old)) }
 {
-    let rows = rows_of(words);
-    let mut i = 0;
-    while i < rows {
-        advance_one(words, i, i == chosen);
-        i += 1;
+    for i in 0..rows_of(words) {
+        advance_one(words, i, chosen == Some(i));
     }
 }
 
@@ -157,7 +145,7 @@ fn count_tick(words: &mut [u64], idle: bool)
     ensures { words.new ≡ laid (counted_tick idle (state_of words.old)) }
 {
     words[1] = words[1] + 1;
-    words[2] = words[2] + one(idle);
+    words[2] = words[2] + u64::from(idle);
 }
 
 // Steps 2 to 4, once the rows have released: the choice, the work and the settling.
@@ -166,9 +154,8 @@ pub fn finish(words: &mut [u64])
     ensures { words.new ≡ laid (finish_law (state_of words.old)) }
 {
     let chosen = choose(words);
-    let rows = rows_of(words);
     advance_all(words, chosen);
-    count_tick(words, chosen == rows);
+    count_tick(words, chosen.is_none());
 }
 
 // One tick of a run: the releases, each with C work, and the rest.
@@ -185,9 +172,7 @@ pub fn ticks(words: &mut [u64], patterns: &[u64], n: u64)
     requires { (Held 0 words.old) × ((state_of words.old).time + n ≤ clock_end) × (Fetched (state_of words.old).rows patterns.now) }
     ensures { words.new ≡ laid (run_law n (state_of words.old)) }
 {
-    let mut done = 0;
-    while done < n {
+    for _done in 0..n {
         tick(words, patterns);
-        done += 1;
     }
 }

@@ -30,12 +30,9 @@ pub fn fetch(words: &[u64]) -> [u64; 32]
     requires { Held 0 words.now }
     ensures { (Fetched (state_of words.now).rows result) × (length result ≡ 32) }
 {
-    let rows = rows_of(words);
     let mut patterns = [0u64; 32];
-    let mut i = 0;
-    while i < rows {
+    for i in 0..rows_of(words) {
         patterns[i] = pattern_of(words, i);
-        i += 1;
     }
     patterns
 }

@@ -1,4 +1,9 @@
 -- `tick::count_tick` meets its contract: two words of a state change, and both still fit.
+use mathlib.Core.Bool.{Bool, true, false}
+use mathlib.Core.Path.{◌≡◌, refl, ◌∙◌}
+use mir.Val.{bool_byte}
+use Rattle.law.specs.Sums.{bit}
+use Rattle.law.proofs.Tests.{bit_most}
 use Prim.Native.Nat.{◌+◌}
 use native.Mathlib.Omega.{arith}
 use lib.ListN.{get_or, length-set}
@@ -6,6 +11,11 @@ use lib.Seq.{get_or-set_other}
 use Rattle.rows.proofs.Words.{words_long}
 use Rattle.tick.proofs.Chain.{time_word, idle_word, counted}
 use Rattle.tick.proofs.count_tick.Goals as goal
+
+-- a truth value as a number
+byte_bit : (b : Bool) → bool_byte b ≡ bit b
+byte_bit true = refl
+byte_bit false = refl
 
 pub bounds-words-1 : goal.bounds-words-1
 bounds-words-1 c = omega (arith, words_long c.requires.0)
@@ -22,10 +32,10 @@ bounds-words-2 c = simp length-set (omega (arith, words_long c.requires.0))
 pub overflow_add-words-2 : goal.overflow_add-words-2
 overflow_add-words-2 c =
     let w = c.args.words.now in
-    omega (arith, idle_word w, get_or-set_other w 1 2 (get_or w 1 0 + 1) 0 (omega arith))
+    omega (arith, c.from.ensures, byte_bit c.args.idle, bit_most c.args.idle, idle_word w, get_or-set_other w 1 2 (get_or w 1 0 + 1) 0 (omega arith))
 
 pub bounds-words-2-2 : goal.bounds-words-2-2
 bounds-words-2-2 c = simp length-set (omega (arith, words_long c.requires.0))
 
 pub returns : goal.returns
-returns c = counted c.requires.0 c.one.result c.args.idle c.one.ensures.0
+returns c = counted c.requires.0 c.from.result c.args.idle (c.from.ensures ∙ byte_bit c.args.idle)

@@ -1,5 +1,5 @@
 -- `tick::release_all` meets its contract: the rows passed have released.
-use Prim.Native.Nat.{◌-◌}
+use lib.ListN.{length}
 use Rattle.law.specs.Tick.{full_length, release_row}
 use Rattle.law.specs.State.{state_of}
 use Rattle.law.specs.Sound.{SoundState}
@@ -9,8 +9,5 @@ use Rattle.tick.proofs.release_all.Given as goal
 
 abbrev pub invariant-loop-i : goal.invariant-loop-i
 invariant-loop-i l =
-    (Mapped (λ i. release_row (full_length (state_of l.initial.words).rows i)) (state_of l.initial.words) l.words l.rows l.i)
+    (Mapped (λ i. release_row (full_length (state_of l.initial.words).rows i)) (state_of l.initial.words) l.words (length (state_of l.initial.words).rows) l.i)
     × (SoundState 0 (state_of l.initial.words)) × (Fetched (state_of l.initial.words).rows l.patterns)
-
-abbrev pub decreases-loop-i : goal.decreases-loop-i
-decreases-loop-i l = l.rows - l.i

@@ -50,12 +50,6 @@ tick-requires c =
     let r = c.loop-done.invariant in
     (ran-held r, ran-early r c.loop-done-test.true, ran-fetched r)
 
-pub overflow_add-done : goal.overflow_add-done
-overflow_add-done c = let r = c.loop-done.invariant in omega (arith, r.early)
-
-pub loop-done-smaller : goal.loop-done-smaller
-loop-done-smaller c = omega arith
-
 pub loop-done-preserved : goal.loop-done-preserved
 loop-done-preserved c = ran-next c.loop-done.invariant _ c.loop-done-test.true c.tick.ensures
 

@@ -1,7 +1,7 @@
 -- `tick::ticks` meets its contract: after `done` ticks the words are those of the law's run so far.
 use mathlib.Core.List.{List}
 use mathlib.Core.Path.{◌≡◌}
-use Prim.Native.Nat.{ℕ, ◌+◌, ◌-◌, ◌≤◌}
+use Prim.Native.Nat.{ℕ, ◌+◌, ◌≤◌}
 use Rattle.law.specs.Tick.{State, run, clock_end}
 use Rattle.law.specs.State.{state_of, laid}
 use Rattle.law.specs.Sound.{SoundState}
@@ -16,7 +16,4 @@ pub record Ran (s : State) (patterns words : List ℕ) (n done : ℕ) : Type 0 w
   pub is : words ≡ laid (run done s)
 
 abbrev pub invariant-loop-done : goal.invariant-loop-done
-invariant-loop-done l = Ran (state_of l.initial.words) l.patterns l.words l.n l.done
-
-abbrev pub decreases-loop-done : goal.decreases-loop-done
-decreases-loop-done l = l.n - l.done
+invariant-loop-done l = Ran (state_of l.initial.words) l.patterns l.words l.n l._done

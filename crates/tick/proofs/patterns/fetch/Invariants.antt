@@ -1,7 +1,7 @@
 -- `tick::patterns::fetch` meets its contract: each row passed has its pattern word.
 use mathlib.Core.List.{List}
 use mathlib.Core.Path.{◌≡◌}
-use Prim.Native.Nat.{ℕ, ◌-◌, ◌≤◌, ◌<◌}
+use Prim.Native.Nat.{ℕ, ◌≤◌, ◌<◌}
 use lib.ListN.{length, get_or}
 use Rattle.law.specs.Table.{word_of}
 use Rattle.law.specs.Tick.{core_at}
@@ -20,7 +20,4 @@ pub record Fetching (words patterns : List ℕ) (n i : ℕ) : Type 0 where
   pub done : (j : ℕ) → j < i → get_or patterns j 0 ≡ ownWord words j
 
 abbrev pub invariant-loop-i : goal.invariant-loop-i
-invariant-loop-i l = Fetching l.words l.patterns l.rows l.i
-
-abbrev pub decreases-loop-i : goal.decreases-loop-i
-decreases-loop-i l = l.rows - l.i
+invariant-loop-i l = Fetching l.words l.patterns (length (state_of l.words).rows) l.i
