@@ -6,7 +6,7 @@ use native.Mathlib.Nat.{zero-add}
 use native.Mathlib.Numerals.{add-one}
 use native.Mathlib.Omega.{arith}
 use lib.ListN.{length, get_or, set, take, drop, length-append, length-drop, length-set, take-append-drop}
-use lib.Seq.{paste, paste-zero, take-length, length-take-le, take-suc, take_at, drop-append-add, drop-drop, set_at, set_split, append_snoc}
+use lib.Seq.{paste-zero, length-take-le, take-suc, take_at, drop-append-add, drop-drop, set_at, set_split, append_snoc}
 use Rattle.law.specs.Reading.{decimal}
 use Rattle.law.proofs.TextWrite.{Left, left_start, left_next, left_last, left_fits}
 use Rattle.line.specs.Put.{put_at, line_of}
@@ -32,10 +32,6 @@ module _ (old : List ℕ) (at : ℕ) where
   pub put_none : put_at old at [] ≡ old
   unfolding put_at
   put_none = sym (paste-zero old at [] ∙ append_assoc (take at old) [] (drop (at + 0) old))
-
-  pub put_paste : (a : List ℕ) → paste old at a (length a) ≡ put_at old at a
-  unfolding put_at
-  put_paste a = append_assoc (take at old) (take (length a) a) (drop (at + length a) old) ∙ rw take-length
 
   pub put_one : (b : ℕ) → at < length old → set old at b ≡ put_at old at (b ∷ [])
   unfolding put_at

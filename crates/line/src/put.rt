@@ -4,6 +4,8 @@ ghost use Rattle.law.specs.Text.{row_keys};
 ghost use Rattle.law.specs.Reading.{decimal};
 ghost use Rattle.line.specs.Put.{put_at, line_of};
 
+use crate::key::key_of;
+
 // How many digits a number has.
 fn digits_in(v: u64) -> usize
     requires { v ≤ 4294967295 }
@@ -42,12 +44,9 @@ pub fn put_bytes(out: &mut [u8], at: usize, part: &[u8]) -> usize
     ensures place { result ≡ at + length part.now }
     ensures bytes { out.new ≡ put_at out.old at part.now }
 {
-    let mut i = 0;
-    while i < part.len() {
-        out[at + i] = part[i];
-        i += 1;
-    }
-    at + i
+    let end = at + part.len();
+    out[at..end].copy_from_slice(part);
+    end
 }
 
 // A line: the key, the number, LF; answers the place after it.
@@ -62,19 +61,11 @@ pub fn put_line(out: &mut [u8], at: usize, key: &[u8], v: u64) -> usize
     end + 1
 }
 
-// The line that is due by its number within its row; answers the place after it.
+// The line that is due, j being its number within its row; answers the place after it.
 pub fn put_due(out: &mut [u8], at: usize, j: usize, v: u64) -> usize
     requires { (j < 7) × (v ≤ 4294967295) × (at + length (line_of (get_or row_keys j []) v) ≤ length out.old) }
     ensures place { result ≡ at + length (line_of (get_or row_keys j []) v) }
     ensures bytes { out.new ≡ put_at out.old at (line_of (get_or row_keys j []) v) }
 {
-    match j {
-        0 => put_line(out, at, b"id=", v),
-        1 => put_line(out, at, b"c=", v),
-        2 => put_line(out, at, b"t=", v),
-        3 => put_line(out, at, b"d=", v),
-        4 => put_line(out, at, b"m=", v),
-        5 => put_line(out, at, b"k=", v),
-        _ => put_line(out, at, b"p=", v),
-    }
+    put_line(out, at, key_of(j), v)
 }

@@ -1,23 +1,21 @@
 // A refusal as it is printed: its number, and the row or place where there is one.
-ghost use Rattle.std.specs.Prelude.{◌≡◌, ◌+◌, ◌≤◌, length};
+ghost use Rattle.std.specs.Prelude.{[], ◌∷◌, ◌≡◌, ◌+◌, ◌≤◌, length};
 ghost use Rattle.law.specs.Refusal.{head};
 ghost use Rattle.law.specs.Report.{refusal_printed, placed};
 ghost use Rattle.refusal.specs.Shown.{number_of, also_of};
 ghost use Rattle.line.specs.Put.{put_at};
 
 use crate::put::put_line;
-use refusal::{Refusal, also, has_also, number};
+use refusal::Refusal;
 
-// The row or place that is printed with a refusal. A place in the task text counts from the first byte of the input: the text begins at `start`.
-fn printed_place(r: Refusal, start: u64) -> u64
-    requires { start + head (also_of r) ≤ 4294967295 }
-    ensures { result ≡ head (placed start (number_of r) (also_of r)) }
+// The row or place that is printed with a refusal of this number. A place in the task text counts from the first byte of the input: the text
+// begins at `start`.
+fn printed_place(number: u64, place: u64, start: u64) -> u64
+    requires { start + place ≤ 4294967295 }
+    ensures place { result ∷ [] ≡ placed start number (place ∷ []) }
+    ensures small { result ≤ 4294967295 }
 {
-    if number(r) == 12 {
-        start + also(r)
-    } else {
-        also(r)
-    }
+    if number == 12 { start + place } else { place }
 }
 
 // A refusal: its number, then the row or place where there is one.
@@ -26,9 +24,10 @@ pub fn put_refusal(out: &mut [u8], r: Refusal, start: u64) -> usize
     ensures place { result ≡ length (refusal_printed (number_of r) (placed start (number_of r) (also_of r))) }
     ensures bytes { out.new ≡ put_at out.old 0 (refusal_printed (number_of r) (placed start (number_of r) (also_of r))) }
 {
-    let at = put_line(out, 0, b"refused=", number(r));
-    if has_also(r) {
-        return put_line(out, at, b"at=", printed_place(r, start));
+    let number = r.number();
+    let at = put_line(out, 0, b"refused=", number);
+    if let Some(place) = r.place() {
+        return put_line(out, at, b"at=", printed_place(number, place, start));
     }
     at
 }
