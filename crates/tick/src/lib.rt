@@ -11,7 +11,7 @@ ghost use Rattle.rows.specs.Said.{Timed, Laid, Held, Fetched, advanced_state, co
 
 pub mod patterns;
 
-use rows::steps::{advanced, released, worked};
+use rows::steps::worked;
 use rows::{put_going, put_row, put_wait, row_at, word};
 
 // The number of rows, the first word of a state.
@@ -23,12 +23,14 @@ pub fn rows_of(words: &[u64]) -> usize
 }
 
 // Step 1 for row i whose wait is 0: its next job is released with the work given.
+#[tactic(auto, using(rows::proofs::Words::words_long, rows::proofs::Words::row_read, rows::proofs::Words::row_put))]
 pub fn release_row(words: &mut [u64], i: usize, pattern: u64, work: u64)
     requires { (Laid words.old) × (i < length (state_of words.old).rows) × (Timed 0 (get_or (state_of words.old).rows i no_row)) × ((core_at (state_of words.old).rows i).wait ≡ 0) × (pattern ≡ word_of (core_at (state_of words.old).rows i).task) }
     ensures { words.new ≡ laid (with_row (state_of words.old) i (release_row work (get_or (state_of words.old).rows i no_row))) }
 {
-    let r = row_at(words, i);
-    put_row(words, i, released(r, pattern, work));
+    let mut r = row_at(words, i);
+    r.release(pattern, work);
+    put_row(words, i, r);
 }
 
 // Step 1 for row i: it releases where its wait, word 7 of a row, is 0; with C work, word 1.
@@ -44,12 +46,14 @@ fn release_one(words: &mut [u64], i: usize, pattern: u64)
 }
 
 // Steps 3 and 4 for row i, the whole row.
+#[tactic(auto, using(rows::proofs::Words::words_long, rows::proofs::Words::row_read, rows::proofs::Words::row_put))]
 fn settle_one(words: &mut [u64], i: usize, chosen: bool)
     requires { (Laid words.old) × (i < length (state_of words.old).rows) × (Timed 1 (get_or (state_of words.old).rows i no_row)) }
     ensures { words.new ≡ laid (with_row (state_of words.old) i (advance_row chosen (get_or (state_of words.old).rows i no_row))) }
 {
-    let r = row_at(words, i);
-    put_row(words, i, advanced(r, chosen));
+    let mut r = row_at(words, i);
+    r.advance(chosen);
+    put_row(words, i, r);
 }
 
 // Steps 3 and 4 for row i. Most rows settle nothing in most ticks: these change at most three words, 7, 9 and 10 of a row.
