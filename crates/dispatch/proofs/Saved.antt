@@ -1,13 +1,13 @@
 -- Whether words are a well-formed state: one law for each way out of the code, and what well-formed words give to the run.
-use mathlib.Core.Bool.{true, false}
+use mathlib.Core.Bool.{Bool, true, false}
 use mathlib.Core.List.{List, [], ◌∷◌, ◌++◌}
-use mathlib.Core.Path.{◌≡◌, sym, ap, ◌∙◌}
+use mathlib.Core.Path.{◌≡◌, refl, sym, ap, ◌∙◌}
 use Prim.Native.Nat.{ℕ, ◌+◌, ◌*◌, ◌≤◌, ◌<◌}
 use native.Mathlib.Omega.{arith}
 use lib.Dec.{leb, eqb}
 use lib.ListN.{length, get_or, drop, get_or-eq_default}
 use borrow.Author.Tests.{le-leb, lt-leb, eq-eqb, ne_eqb, eqb-true}
-use Rattle.law.specs.Sums.{every}
+use Rattle.law.specs.Sums.{both, every}
 use Rattle.law.specs.Refusal.{accepted, refused, within}
 use Rattle.law.specs.Table.{faulty, table_of, checked}
 use Rattle.law.specs.Tick.{Row, no_row, run, fresh, clock_end}
@@ -19,6 +19,14 @@ use Rattle.law.proofs.Laid.{saved_laid}
 use Rattle.rows.specs.Said.{Sized, Held}
 use Rattle.rows.proofs.Words.{words_long, rows_are, row_read}
 use Rattle.tick.proofs.Chain.{time_word, idle_word}
+
+both_nested : (a b c : Bool) → both a (both b c) ≡ both (both a b) c
+both_nested true b c = refl
+both_nested false b c = refl
+
+-- the last word before the words after the rows
+pub rows_few : (words : List ℕ) → length words ≡ 643 → within 1 32 (get_or words 0 0) ≡ true → 3 + get_or words 0 0 * 20 ≤ length words
+rows_few words long e = omega (arith, within_high 1 32 (get_or words 0 0) e)
 
 module _ (words : List ℕ) where
   table_rows : length (tasks_of (state_of words).rows) ≡ get_or words 0 0
@@ -47,32 +55,13 @@ module _ (words : List ℕ) where
         time_off h =
             sym (rw (eq-eqb (length words) 643 long, table_rows, rows, clean, lt-leb (state_of words).time clock_end (rw (time_word words) at h)))
 
-        module _ (early : get_or words 1 0 ≤ clock_end) where
-          in_time_lem : leb (state_of words).time clock_end ≡ true
-          in_time_lem = le-leb (state_of words).time clock_end (rw (time_word words) at early)
-
-          pub idle_off : get_or words 1 0 < get_or words 2 0 → false ≡ saved_well words
-          unfolding saved_well state_well table_well
-          idle_off h =
-              sym
-              (rw (eq-eqb (length words) 643 long, table_rows, rows, clean, in_time_lem, lt-leb (state_of words).idle (state_of words).time (rw (time_word words, idle_word words) at h)))
-
-          module _ (idle : get_or words 2 0 ≤ get_or words 1 0) where
-            in_idle : leb (state_of words).idle (state_of words).time ≡ true
-            in_idle = le-leb (state_of words).idle (state_of words).time (rw (time_word words, idle_word words) at idle)
-
-            pub row_off : every (row_well (get_or words 1 0)) (state_of words).rows ≡ false → false ≡ saved_well words
-            unfolding saved_well state_well table_well
-            row_off e =
-                sym
-                (rw (eq-eqb (length words) 643 long, table_rows, rows, clean, in_time_lem, in_idle, rw (time_word words) at e))
-
-            pub all_on : every (row_well (get_or words 1 0)) (state_of words).rows ≡ true
-                → every (λ w. eqb w 0) (drop (3 + get_or words 0 0 * 20) words) ≡ saved_well words
-            unfolding saved_well state_well table_well
-            all_on e =
-                sym
-                (rw (eq-eqb (length words) 643 long, table_rows, rows, clean, in_time_lem, in_idle, rw (time_word words) at e))
+        -- the last three tests
+        pub last_on : get_or words 1 0 ≤ clock_end
+            → both (leb (get_or words 2 0) (get_or words 1 0)) (both (every (row_well (get_or words 1 0)) (state_of words).rows) (every (λ w. eqb w 0) (drop (3 + get_or words 0 0 * 20) words))) ≡ saved_well words
+        unfolding saved_well state_well table_well
+        last_on early =
+            rw (time_word words, idle_word words, eq-eqb (length words) 643 long, table_rows, rows, clean, le-leb (state_of words).time clock_end (rw (time_word words) at early))
+            (both_nested (leb (state_of words).idle (state_of words).time) (every (row_well (state_of words).time) (state_of words).rows) (every (λ w. eqb w 0) (drop (3 + get_or words 0 0 * 20) words)))
 
 -- words that pass are the words of a well-formed state
 pub saved_held : (words : List ℕ) → saved_well words ≡ true → Held 0 words

@@ -14,7 +14,7 @@ use tick::rows_of;
 
 // Released jobs, mandatory met and missed, optional met and missed, broken windows, and spare: how many further misses in a row are
 // harmless.
-#[derive(Clone, Copy)]
+#[derive(Clone, Copy, Debug, Default, PartialEq, Eq, Hash)]
 pub struct Counts {
     pub released: u64,
     pub mm: u64,
@@ -23,6 +23,25 @@ pub struct Counts {
     pub ox: u64,
     pub broken: u64,
     pub spare: u64,
+}
+
+impl Counts {
+    ghost use Rattle.dispatch.specs.Shown.{counts_said};
+
+    // Its words, in the order in which they are laid and printed.
+    pub fn words(self) -> [u64; 7]
+        ensures { result ≡ counts_said self }
+    {
+        [
+            self.released,
+            self.mm,
+            self.mx,
+            self.om,
+            self.ox,
+            self.broken,
+            self.spare,
+        ]
+    }
 }
 
 // The words that counts fill.
@@ -34,15 +53,7 @@ pub fn counts_of(words: &[u64], i: usize) -> Counts
     ensures { counts_said result ≡ counts_of (get_or (state_of words.now).rows i no_row) }
 {
     if rows_of(words) <= i {
-        return Counts {
-            released: 0,
-            mm: 0,
-            mx: 0,
-            om: 0,
-            ox: 0,
-            broken: 0,
-            spare: 0,
-        };
+        return Counts::default();
     }
     let r = row_at(words, i);
     let y = r.tally;
@@ -68,13 +79,7 @@ pub fn counts_words(words: &[u64], i: u32, room: &mut [u64]) -> Result<(), Refus
     if room.len() < COUNT_WORDS {
         return Err(Refusal::Room);
     }
-    let c = counts_of(words, i as usize);
-    room[0] = c.released;
-    room[1] = c.mm;
-    room[2] = c.mx;
-    room[3] = c.om;
-    room[4] = c.ox;
-    room[5] = c.broken;
-    room[6] = c.spare;
+    let counts = counts_of(words, i as usize);
+    room[..COUNT_WORDS].copy_from_slice(&counts.words());
     Ok(())
 }

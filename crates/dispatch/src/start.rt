@@ -46,29 +46,16 @@ fn fresh_row(task: Task) -> Row
     }
 }
 
-// Every word becomes 0.
-fn clear(words: &mut [u64])
-    ensures { words.new ≡ replicate (length words.old) 0 }
-{
-    let mut i = 0;
-    while i < words.len() {
-        words[i] = 0;
-        i += 1;
-    }
-}
-
 // The words of a table's fresh state: its number of rows, time 0, idle 0, and a fresh row for each task.
 fn lay_fresh(table: &[u32], words: &mut [u64])
     requires { (WellFormed (table_of table.now)) × (length words.old ≡ 643) }
     ensures { words.new ≡ laid (fresh_law (table_of table.now)) }
 {
     let rows = table.len() / WIDTH;
-    clear(words);
+    words.fill(0);
     words[0] = rows as u64;
-    let mut i = 0;
-    while i < rows {
+    for i in 0..rows {
         put_row(words, i, fresh_row(task_at(table, i)));
-        i += 1;
     }
 }
 

@@ -8,6 +8,7 @@ use Rattle.law.specs.Sums.{largest}
 use Rattle.law.specs.Tick.{Row, no_row, spare}
 use Rattle.law.specs.State.{state_of, counts_of}
 use Rattle.rows.specs.Said.{row_said}
+use Rattle.dispatch.specs.Shown.{counts_said}
 use Rattle.rows.proofs.Words.{words_long, row_read}
 use Rattle.dispatch.proofs.counts.counts_of.Goals.{After-row_at-r}
 use Rattle.dispatch.proofs.counts.counts_of.Goals as goal
@@ -20,7 +21,9 @@ none = refl
 pub returns-then-rows_of-i : goal.returns-then-rows_of-i
 returns-then-rows_of-i c =
     let past : length (state_of c.args.words.now).rows ≤ c.args.i = omega (arith, c.rows_of.ensures, c.if-rows_of-i.true) in
-    sym (ap counts_of (get_or-eq_default (state_of c.args.words.now).rows no_row past) ∙ none)
+    let d = c.default.ensures in
+    let z : counts_said c.default.result ≡ 0 ∷ 0 ∷ 0 ∷ 0 ∷ 0 ∷ 0 ∷ 0 ∷ [] = rw (d.0, d.1.0, d.1.1.0, d.1.1.1.0, d.1.1.1.1.0, d.1.1.1.1.1.0, d.1.1.1.1.1.1) in
+    z ∙ sym (ap counts_of (get_or-eq_default (state_of c.args.words.now).rows no_row past) ∙ none)
 
 pub row_at-r-requires : goal.row_at-r-requires
 row_at-r-requires c =

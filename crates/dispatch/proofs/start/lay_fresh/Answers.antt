@@ -69,11 +69,11 @@ read : (c : After-task_at) → task_said c.task_at.result ≡ row (table_of c.ar
 read c = c.task_at.ensures ∙ sym (table_row _ _ c.loop-i-test.true)
 
 pub bounds-words-0 : goal.bounds-words-0
-bounds-words-0 c = omega (arith, c.clear.auto.words, c.requires.1)
+bounds-words-0 c = omega (arith, c.fill.ensures.len, c.requires.1)
 
 pub loop-i-init : goal.loop-i-init
 loop-i-init c =
-    laying-start c.args.table.now _ c.requires.0 (c.clear.ensures ∙ ap (λ (z : ℕ). replicate z 0) c.requires.1)
+    laying-start c.args.table.now _ c.requires.0 (c.fill.ensures.after (λ y e. e) ∙ ap (λ (z : ℕ). replicate z 0) c.requires.1)
 
 pub task_at-requires : goal.task_at-requires
 task_at-requires c = c.loop-i-test.true
@@ -87,12 +87,6 @@ pub put_row-requires : goal.put_row-requires
 put_row-requires c =
     let l = c.loop-i.invariant in
     (words_long (mapped_laid l.mapped), omega (arith, few _ l.well, c.loop-i-test.true))
-
-pub overflow_add-i : goal.overflow_add-i
-overflow_add-i c = let l = c.loop-i.invariant in omega (arith, few _ l.well)
-
-pub loop-i-smaller : goal.loop-i-smaller
-loop-i-smaller c = omega arith
 
 pub loop-i-preserved : goal.loop-i-preserved
 loop-i-preserved c =

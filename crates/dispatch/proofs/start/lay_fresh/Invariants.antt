@@ -1,6 +1,6 @@
 -- `dispatch::start::lay_fresh` meets its contract: from all-zero words with their number of rows, each row passed is fresh.
 use mathlib.Core.List.{List}
-use Prim.Native.Nat.{ℕ, ◌-◌, ◌/◌}
+use Prim.Native.Nat.{ℕ, ◌/◌}
 use lib.ListN.{length}
 use Rattle.law.specs.Table.{table_of, row, WellFormed}
 use Rattle.law.specs.Tick.{Row, fresh_row}
@@ -17,6 +17,3 @@ pub record Laying (table words : List ℕ) (i : ℕ) : Type 0 where
 
 abbrev pub invariant-loop-i : goal.invariant-loop-i
 invariant-loop-i l = Laying l.table l.words l.i
-
-abbrev pub decreases-loop-i : goal.decreases-loop-i
-decreases-loop-i l = length l.table / 7 - l.i

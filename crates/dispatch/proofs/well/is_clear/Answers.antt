@@ -1,11 +1,12 @@
 -- `dispatch::well::is_clear` meets its contract: all are 0 where those put together so far are, and those from i on.
 use mathlib.Core.Bool.{Bool, true, false}
 use mathlib.Core.Path.{◌≡◌, refl, sym, ap, ◌∙◌}
-use Prim.Native.Nat.{ℕ, zero, suc, ◌+◌}
+use Prim.Native.Nat.{ℕ, zero, suc, ◌+◌, ◌<◌}
 use native.Mathlib.Omega.{arith}
 use lib.Bits.{bit_or, or_zero_l, or_add_and, and_le_r}
 use lib.Dec.{eqb}
-use lib.ListN.{get_or, drop}
+use mathlib.Core.List.{List}
+use lib.ListN.{length, get_or, drop}
 use borrow.Author.Tests.{ne_eqb}
 use Rattle.law.specs.Sums.{both, every}
 use Rattle.law.proofs.Sums.{every_next, every_end}
@@ -24,36 +25,27 @@ both-nested : (a b c : Bool) → both a (both b c) ≡ both (both a b) c
 both-nested true b c = refl
 both-nested false b c = refl
 
+clear_next : (any : ℕ) (words : List ℕ) (i : ℕ) → i < length words
+    → both (clear any) (every clear (drop i words)) ≡ both (clear (bit_or any (get_or words i 0))) (every clear (drop (i + 1) words))
+clear_next any words i h =
+    ap (both (clear any)) (every_next clear words 0 i h) ∙ both-nested (clear any) (clear (get_or words i 0)) (every clear (drop (i + 1) words))
+    ∙ ap (λ (z : Bool). both z (every clear (drop (i + 1) words))) (sym (clear_both any (get_or words i 0)))
+
 both_end : (a : Bool) → both a true ≡ a
 both_end true = refl
 both_end false = refl
 
-pub loop-i-init : goal.loop-i-init
+pub loop-word-init : goal.loop-word-init
 unfolding clear
-loop-i-init c = refl
+loop-word-init c = refl
 
-pub offset_bounds-words-i : goal.offset_bounds-words-i
-offset_bounds-words-i c = omega arith
-
-pub bounds-words-i : goal.bounds-words-i
-bounds-words-i c = omega arith
-
-pub overflow_add-i : goal.overflow_add-i
-overflow_add-i c = omega arith
-
-pub loop-i-smaller : goal.loop-i-smaller
-loop-i-smaller c = omega arith
-
-pub loop-i-preserved : goal.loop-i-preserved
-loop-i-preserved c =
-    let l = c.loop-i in
-    let words = c.args.words.now in
-    l.invariant ∙ ap (both (clear l.any)) (every_next clear words 0 l.i c.loop-i-test.true)
-    ∙ both-nested (clear l.any) (clear (get_or words l.i 0)) (every clear (drop (l.i + 1) words))
-    ∙ ap (λ (z : Bool). both z (every clear (drop (l.i + 1) words))) (sym (clear_both l.any (get_or words l.i 0)))
+pub loop-word-preserved : goal.loop-word-preserved
+loop-word-preserved c =
+    let l = c.loop-word in
+    l.invariant ∙ clear_next l.any c.args.words.now l.word-index c.loop-word-test.true
 
 pub returns : goal.returns
 unfolding clear
 returns c =
-    let l = c.loop-i in
-    sym (l.invariant ∙ ap (both (clear l.any)) (every_end clear _ 0 l.i c.loop-i-test.false) ∙ both_end (clear l.any))
+    let l = c.loop-word in
+    sym (l.invariant ∙ ap (both (clear l.any)) (every_end clear _ 0 l.word-index c.loop-word-test.false) ∙ both_end (clear l.any))

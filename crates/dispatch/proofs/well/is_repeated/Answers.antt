@@ -41,12 +41,6 @@ returns-then-word-id c =
     let found = searched_hit c.loop-j.invariant.0 c.loop-j-test.true (told (goal.at.returns-then-word-id c).After-word ∙ eq-eqb _ _ c.if-word-id.true) in
     sym (lt-ltb _ i (omega (arith, found, c.loop-j-test.true)))
 
-pub overflow_add-j : goal.overflow_add-j
-overflow_add-j c = let l = c.loop-j.invariant in omega (arith, l.1.few)
-
-pub loop-j-smaller : goal.loop-j-smaller
-loop-j-smaller c = omega arith
-
 pub loop-j-preserved : goal.loop-j-preserved
 loop-j-preserved c =
     let l = c.loop-j.invariant in

@@ -2,7 +2,7 @@
 use mathlib.Core.Bool.{Bool}
 use mathlib.Core.List.{List}
 use mathlib.Core.Path.{◌≡◌}
-use Prim.Native.Nat.{ℕ, ◌-◌, ◌<◌}
+use Prim.Native.Nat.{ℕ, ◌<◌}
 use lib.Dec.{eqb}
 use Rattle.law.specs.Table.{row}
 use Rattle.law.specs.State.{state_of, tasks_of}
@@ -18,6 +18,3 @@ same words i j = eqb (id_of words j) (id_of words i)
 
 abbrev pub invariant-loop-j : goal.invariant-loop-j
 invariant-loop-j l = (Searched (same l.words l.i) l.i l.j) × (Sized l.words l.rows) × (l.i < l.rows) × (l.id ≡ id_of l.words l.i)
-
-abbrev pub decreases-loop-j : goal.decreases-loop-j
-decreases-loop-j l = l.i - l.j

@@ -1,64 +1,50 @@
--- `dispatch::well::is_well` meets its contract: the tests are the law's, in its order.
-use mathlib.Core.Bool.{true}
-use mathlib.Core.Path.{◌≡◌, sym, ◌∙◌}
+-- `dispatch::well::is_well` meets its contract: what is left after the tests before is the law's last three.
+use mathlib.Core.Bool.{Bool, true, false}
+use mathlib.Core.List.{List}
+use mathlib.Core.Path.{◌≡◌, sym, ap, ◌∙◌}
+use Prim.Native.Nat.{ℕ, ◌+◌, ◌-◌, ◌*◌, ◌≤◌, ◌<◌}
 use native.Mathlib.Omega.{arith}
-use lib.Dec.{eqb}
-use lib.ListN.{get_or}
-use borrow.Author.Tests.{eqb-true}
+use lib.Dec.{leb, eqb}
+use lib.ListN.{length, get_or, take, drop, length-drop}
+use lib.Seq.{take_all}
+use borrow.Author.Tests.{le-leb, lt-leb}
+use Rattle.law.specs.Sums.{both, every}
 use Rattle.law.specs.Refusal.{within}
-use Rattle.law.specs.Table.{faulty}
-use Rattle.law.specs.State.{tasks_of, state_of}
-use Rattle.rows.specs.Said.{Sized}
-use Rattle.dispatch.proofs.Saved.{length_off, rows_off, sized, table_off, time_off, idle_off, row_off, all_on}
-use Rattle.dispatch.proofs.well.is_well.Goals.{Else-not-is_within, Else-not-table_clean}
+use Rattle.law.proofs.Tests.{never_both}
+use Rattle.dispatch.proofs.Saved.{last_on}
+use Rattle.dispatch.proofs.well.is_well.Goals.{then-words-time, else-words-time}
 use Rattle.dispatch.proofs.well.is_well.Goals as goal
 
--- what is known past each test
-rows_in : (c : Else-not-is_within) → within 1 32 (get_or c.args.words.now 0 0) ≡ true
-rows_in c = sym c.is_within.ensures ∙ c.if-not-is_within.false
+-- the last three tests, where the first of them that fails tells, or the third
+all_pass : (a b n : ℕ) (words : List ℕ) (r c : Bool) → a ≤ b → r ≡ true → c ≡ every (λ w. eqb w 0) (take (length words - n) (drop n words))
+    → c ≡ both (leb a b) (both r (every (λ w. eqb w 0) (drop n words)))
+all_pass a b n words r c h e f =
+    f ∙ ap (every (λ w. eqb w 0)) (take_all (length words - n) (drop n words) (omega (arith, length-drop n words))) ∙ sym (rw (le-leb a b h, e))
 
-size : (c : Else-not-is_within) → Sized c.args.words.now (get_or c.args.words.now 0 0)
-size c = sized _ c.if-words-ne-STATE_WORDS.false (rows_in c)
+row_fails : (a b : ℕ) (r c : Bool) → a ≤ b → r ≡ false → false ≡ both (leb a b) (both r c)
+row_fails a b r c h e = sym (rw (le-leb a b h, e))
 
-clean : (c : Else-not-table_clean) → eqb (faulty (tasks_of (state_of c.args.words.now).rows)) (get_or c.args.words.now 0 0) ≡ true
-clean c = sym c.table_clean.ensures ∙ c.if-not-table_clean.false
+idle_fails : (a b : ℕ) (c : Bool) → b < a → false ≡ both (leb a b) c
+idle_fails a b c h = sym (rw (lt-leb a b h))
 
-pub returns-then-words-ne-STATE_WORDS : goal.returns-then-words-ne-STATE_WORDS
-returns-then-words-ne-STATE_WORDS c = length_off _ c.if-words-ne-STATE_WORDS.true
+pub returns-then-rows_well : goal.returns-then-rows_well
+returns-then-rows_well c =
+    let words = c.args.words.now in
+    let rows : within 1 32 (get_or words 0 0) ≡ true = sym c.is_within.ensures ∙ c.if-not-is_within.false in
+    let told = last_on words c.if-words-ne-STATE_WORDS.false rows (sym c.table_clean.ensures ∙ c.if-not-table_clean.false) c.if-time-gt4294967295.false in
+    elim c.if-words-time.branch [
+      | then-words-time w ↦ all_pass _ _ (3 + get_or words 0 0 * 20) words _ _ w.if-words-time.true (sym w.rows_well.ensures ∙ sym w.value-is ∙ c.if-rows_well.true) c.is_clear.ensures
+          ∙ told
+      | else-words-time w ↦ absurd (never_both _ c.if-rows_well.true (w.value-is ∙ lt-leb _ _ w.if-words-time.false))
+    ]
 
-pub returns-then-not-is_within : goal.returns-then-not-is_within
-returns-then-not-is_within c = rows_off _ c.if-words-ne-STATE_WORDS.false (sym c.is_within.ensures ∙ c.if-not-is_within.true)
-
-pub table_clean-requires : goal.table_clean-requires
-table_clean-requires c = size (goal.at.table_clean-requires c).Else-not-is_within
-
-pub returns-then-not-table_clean : goal.returns-then-not-table_clean
-returns-then-not-table_clean c =
-    table_off _ c.if-words-ne-STATE_WORDS.false (rows_in (goal.at.returns-then-not-table_clean c).Else-not-is_within) (sym c.table_clean.ensures ∙ c.if-not-table_clean.true)
-
-pub returns-then-time-gt4294967295 : goal.returns-then-time-gt4294967295
-returns-then-time-gt4294967295 c =
-    time_off _ c.if-words-ne-STATE_WORDS.false (rows_in (goal.at.returns-then-time-gt4294967295 c).Else-not-is_within) (clean (goal.at.returns-then-time-gt4294967295 c).Else-not-table_clean) c.if-time-gt4294967295.true
-
-pub returns-then-time-words : goal.returns-then-time-words
-returns-then-time-words c =
-    idle_off _ c.if-words-ne-STATE_WORDS.false (rows_in (goal.at.returns-then-time-words c).Else-not-is_within) (clean (goal.at.returns-then-time-words c).Else-not-table_clean) c.if-time-gt4294967295.false c.if-time-words.true
-
-pub rows_well-requires : goal.rows_well-requires
-rows_well-requires c =
-    (size (goal.at.rows_well-requires c).Else-not-is_within, eqb-true _ _ (clean (goal.at.rows_well-requires c).Else-not-table_clean), c.if-time-gt4294967295.false)
-
-pub returns-then-not-rows_well : goal.returns-then-not-rows_well
-returns-then-not-rows_well c =
-    row_off _ c.if-words-ne-STATE_WORDS.false (rows_in (goal.at.returns-then-not-rows_well c).Else-not-is_within) (clean (goal.at.returns-then-not-rows_well c).Else-not-table_clean) c.if-time-gt4294967295.false c.if-time-words.false (sym c.rows_well.ensures ∙ c.if-not-rows_well.true)
-
-pub overflow_mul-rows : goal.overflow_mul-rows
-overflow_mul-rows c = let s = size (goal.at.overflow_mul-rows c).Else-not-is_within in omega (arith, s.few)
-
-pub overflow_add-rows : goal.overflow_add-rows
-overflow_add-rows c = let s = size (goal.at.overflow_add-rows c).Else-not-is_within in omega (arith, s.few)
-
-pub returns : goal.returns
-returns c =
-    c.is_clear.ensures
-    ∙ all_on _ c.if-words-ne-STATE_WORDS.false (rows_in (goal.at.returns c).Else-not-is_within) (clean (goal.at.returns c).Else-not-table_clean) c.if-time-gt4294967295.false c.if-time-words.false (sym c.rows_well.ensures ∙ c.if-not-rows_well.false)
+pub returns-else-rows_well : goal.returns-else-rows_well
+returns-else-rows_well c =
+    let words = c.args.words.now in
+    let rows : within 1 32 (get_or words 0 0) ≡ true = sym c.is_within.ensures ∙ c.if-not-is_within.false in
+    let told = last_on words c.if-words-ne-STATE_WORDS.false rows (sym c.table_clean.ensures ∙ c.if-not-table_clean.false) c.if-time-gt4294967295.false in
+    elim c.if-words-time.branch [
+      | then-words-time w ↦ c.if-rows_well.false
+          ∙ row_fails _ _ _ _ w.if-words-time.true (sym w.rows_well.ensures ∙ sym w.value-is ∙ c.if-rows_well.false) ∙ told
+      | else-words-time w ↦ w.value-is ∙ lt-leb _ _ w.if-words-time.false ∙ idle_fails _ _ _ w.if-words-time.false ∙ told
+    ]

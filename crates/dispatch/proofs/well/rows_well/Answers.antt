@@ -52,12 +52,6 @@ returns-then-not-row_well c =
     let l = c.loop-i in
     sym (l.invariant.rest ∙ every_fail _ _ no_row l.i (in_rows (goal.at.returns-then-not-row_well c).After-row_well) (told (goal.at.returns-then-not-row_well c).After-row_well ∙ c.if-not-row_well.true))
 
-pub overflow_add-i : goal.overflow_add-i
-overflow_add-i c = let l = c.loop-i.invariant in omega (arith, l.sized.few)
-
-pub loop-i-smaller : goal.loop-i-smaller
-loop-i-smaller c = omega arith
-
 pub loop-i-preserved : goal.loop-i-preserved
 loop-i-preserved c =
     let l = c.loop-i in

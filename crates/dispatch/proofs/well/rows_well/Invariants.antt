@@ -1,7 +1,7 @@
 -- `dispatch::well::rows_well` meets its contract: the rows passed are well, so what is left to test are those from i on.
 use mathlib.Core.List.{List}
 use mathlib.Core.Path.{◌≡◌}
-use Prim.Native.Nat.{ℕ, ◌-◌, ◌≤◌}
+use Prim.Native.Nat.{ℕ, ◌≤◌}
 use lib.ListN.{drop}
 use Rattle.law.specs.Sums.{every}
 use Rattle.law.specs.Table.{faulty}
@@ -19,6 +19,3 @@ pub record Testing (words : List ℕ) (rows time i : ℕ) : Type 0 where
 
 abbrev pub invariant-loop-i : goal.invariant-loop-i
 invariant-loop-i l = Testing l.words l.rows l.time l.i
-
-abbrev pub decreases-loop-i : goal.decreases-loop-i
-decreases-loop-i l = l.rows - l.i

@@ -56,12 +56,6 @@ returns-then-is_some c =
     let found = faulty-is l.invariant.1 _ (searched_hit l.invariant.0 t (clean (goal.at.returns-then-is_some c).After-row_fault true (sym c.is_some.ensures ∙ c.if-is_some.true))) in
     sym (ne_eqb _ c.args.rows (λ e. omega (arith, t, found, e)))
 
-pub overflow_add-i : goal.overflow_add-i
-overflow_add-i c = let l = c.loop-i.invariant in omega (arith, l.1.few)
-
-pub loop-i-smaller : goal.loop-i-smaller
-loop-i-smaller c = omega arith
-
 pub loop-i-preserved : goal.loop-i-preserved
 loop-i-preserved c =
     let l = c.loop-i.invariant in

@@ -1,7 +1,7 @@
 -- `dispatch::well::table_clean` meets its contract: no row passed has a fault.
 use mathlib.Core.Bool.{Bool, not}
 use mathlib.Core.List.{List}
-use Prim.Native.Nat.{ℕ, ◌-◌}
+use Prim.Native.Nat.{ℕ}
 use lib.Dec.{eqb}
 use Rattle.law.specs.Table.{row_fault}
 use Rattle.law.specs.State.{state_of, tasks_of}
@@ -14,6 +14,3 @@ fault words i = not (eqb (row_fault (tasks_of (state_of words).rows) i) 0)
 
 abbrev pub invariant-loop-i : goal.invariant-loop-i
 invariant-loop-i l = (Searched (fault l.words) l.rows l.i) × (Sized l.words l.rows)
-
-abbrev pub decreases-loop-i : goal.decreases-loop-i
-decreases-loop-i l = l.rows - l.i
