@@ -8,10 +8,10 @@ mod run;
 mod show;
 mod texts;
 
-ghost use Rattle.std.specs.Prelude.{◌<◌, ◌≡◌, length, IfOk};
+ghost use Rattle.std.specs.Prelude.{◌≡◌, length};
 
 use intake::{StandardInput, read_full};
-use numbers::{line_end, number_at, numbers_of};
+use numbers::{number_at, numbers_of};
 use std::io;
 use std::io::{Read, Write};
 
@@ -40,23 +40,12 @@ fn answer<W: Write>(out: &mut W, case: &[u64]) -> io::Result<()> {
     out.write_all(b"\n")
 }
 
-// The case that begins at a place of the text: where the next one begins.
-fn answer_at<W: Write>(out: &mut W, text: &[u8], from: usize) -> io::Result<usize>
-    requires { from < length text.now }
-    ensures { IfOk result (λ next. from < next) }
-{
-    let mut case = [0u64; 2048];
-    let end = line_end(text, from);
-    let n = numbers_of(&text[from..end], &mut case);
-    answer(out, &case[..n])?;
-    Ok(end)
-}
-
 // Every case of the text.
 fn answer_all<W: Write>(out: &mut W, text: &[u8]) -> io::Result<()> {
-    let mut at = 0;
-    while at < text.len() {
-        at = answer_at(out, text, at)?;
+    let mut case = [0u64; 2048];
+    for line in text.split_inclusive(|byte| *byte == b'\n') {
+        let n = numbers_of(line, &mut case);
+        answer(out, &case[..n])?;
     }
     Ok(())
 }

@@ -1,149 +1,78 @@
 // Lines of decimal numbers. Every byte string is read: a byte that is no digit ends a number, LF ends the line, a number of more than
 // 64 bits wraps, and numbers past the end of their room are left out.
-ghost use Rattle.std.specs.Prelude.{◌<◌, ◌≤◌, length};
-ghost use Rattle.std.specs.Counts.{IsPrefixLen};
-
-// Where the line that begins at a place ends: after its LF, or with the text.
-pub(crate) fn line_end(text: &[u8], from: usize) -> usize
-    requires { from < length text.now }
-    ensures { (from < result) × (result ≤ length text.now) }
-{
-    let mut at = from;
-    while at < text.len() {
-        if text[at] == 10 {
-            return at + 1;
-        }
-        at += 1;
-    }
-    at
-}
-
-fn is_digit(byte: u8) -> bool {
-    if byte < 48 { false } else { byte <= 57 }
-}
-
-// What a digit's byte stands for.
-fn digit(byte: u8) -> u64 {
-    if byte < 48 { 0 } else { (byte - 48) as u64 }
-}
+ghost use Rattle.std.specs.Prelude.{◌≤◌, length};
 
 // A number with one digit more.
-fn with_digit(number: u64, digit: u64) -> u64 {
-    number.wrapping_mul(10).wrapping_add(digit)
-}
-
-// A number laid at a place of a room, where it has that place: the next place.
-fn put(room: &mut [u64], place: usize, number: u64) -> usize
-    requires { place ≤ length room.old }
-    ensures { result ≤ length room.new }
-{
-    if place < room.len() {
-        room[place] = number;
-        return place + 1;
-    }
-    place
+fn with_digit(number: u64, digit: u8) -> u64 {
+    number.wrapping_mul(10).wrapping_add(digit as u64)
 }
 
 // The numbers of a line, laid into a room: how many there are.
 pub(crate) fn numbers_of(line: &[u8], room: &mut [u64]) -> usize
-    ensures { IsPrefixLen result room.new }
+    ensures { result ≤ length room.new }
 {
     let mut number = 0;
     let mut count = 0;
-    let mut i = 0;
-    while i < line.len() {
-        let byte = line[i];
-        if is_digit(byte) {
-            number = with_digit(number, digit(byte));
+    for byte in line {
+        if byte.is_ascii_digit() {
+            number = with_digit(number, *byte - b'0');
         } else {
-            count = put(room, count, number);
+            if count < room.len() {
+                room[count] = number;
+                count += 1;
+            }
             number = 0;
         }
-        i += 1;
     }
     count
 }
 
 // A number of a case; one that is missing is 0.
 pub(crate) fn number_at(case: &[u64], i: usize) -> u64 {
-    if i < case.len() { case[i] } else { 0 }
+    case.get(i).copied().unwrap_or(0)
 }
 
-// The low 32 bits of a number.
-pub(crate) fn low(number: u64) -> u32 {
-    (number % 4294967296) as u32
+// The numbers of a case from one on; none where it has no more.
+pub(crate) fn numbers_from(case: &[u64], i: usize) -> &[u64] {
+    case.get(i..).unwrap_or(&[])
 }
 
-// The same of a number of a case.
+// What a call takes or lends: a number's low bits.
+pub(crate) trait Word: Copy + Into<u64> {
+    fn low(number: u64) -> Self;
+}
+
+impl Word for u8 {
+    fn low(number: u64) -> u8 {
+        (number & 0xff) as u8
+    }
+}
+
+impl Word for u32 {
+    fn low(number: u64) -> u32 {
+        (number & 0xffff_ffff) as u32
+    }
+}
+
+// The low 32 bits of a number of a case.
 pub(crate) fn low_at(case: &[u64], i: usize) -> u32 {
-    low(number_at(case, i))
+    u32::low(number_at(case, i))
 }
 
-// A length that a case asks for, held to the most that there is.
-pub(crate) fn held(asked: u64, most: usize) -> usize
-    ensures { result ≤ most }
+// How much of a room a case asks for.
+pub(crate) fn part_of<T>(case: &[u64], i: usize, room: &[T]) -> usize
+    ensures { result ≤ length room.now }
 {
-    if asked < most as u64 {
-        asked as usize
-    } else {
-        most
-    }
+    number_at(case, i).min(room.len() as u64) as usize
 }
 
-// How much of a room of words a case asks for.
-pub(crate) fn part_of(case: &[u64], i: usize, room: &[u32]) -> usize
-    ensures { IsPrefixLen result room.now }
+// Numbers laid into a room, as words: how many there are.
+pub(crate) fn words_of<T: Word>(numbers: &[u64], room: &mut [T]) -> usize
+    ensures { result ≤ length room.new }
 {
-    held(number_at(case, i), room.len())
-}
-
-// The same of a room of wide words.
-pub(crate) fn wide_part_of(case: &[u64], i: usize, room: &[u64]) -> usize
-    ensures { IsPrefixLen result room.now }
-{
-    held(number_at(case, i), room.len())
-}
-
-// The same of a room of bytes.
-pub(crate) fn byte_part_of(case: &[u64], i: usize, room: &[u8]) -> usize
-    ensures { IsPrefixLen result room.now }
-{
-    held(number_at(case, i), room.len())
-}
-
-// The words of a table, which are the last numbers of a case: how many there are.
-pub(crate) fn words_of(case: &[u64], from: usize, room: &mut [u32]) -> usize
-    requires { from ≤ 7 }
-    ensures { IsPrefixLen result room.new }
-{
-    let mut n = 0;
-    while n < room.len() {
-        if case.len() <= from + n {
-            return n;
-        }
-        room[n] = low(case[from + n]);
-        n += 1;
-    }
-    n
-}
-
-// The low 8 bits of a number.
-fn low_byte(number: u64) -> u8 {
-    (number % 256) as u8
-}
-
-// The bytes of a text, which are the last numbers of a case: how many there are.
-pub(crate) fn bytes_of(case: &[u64], from: usize, room: &mut [u8]) -> usize
-    requires { from ≤ 7 }
-    ensures { IsPrefixLen result room.new }
-{
-    let mut n = 0;
-    while n < room.len() {
-        if case.len() <= from + n {
-            return n;
-        }
-        room[n] = low_byte(case[from + n]);
-        n += 1;
+    let n = numbers.len().min(room.len());
+    for (word, number) in room.iter_mut().zip(numbers) {
+        *word = T::low(*number);
     }
     n
 }

@@ -1,8 +1,6 @@
 // Answers on a writer, each number after a space: 0 and a value, or a refusal's number and its row or place.
 ghost use Rattle.std.specs.Counts.{IsPrefixLen};
 
-use crate::numbers::held;
-use dispatch::run::Ran;
 use refusal::Refusal;
 use replay::Replayed;
 use std::io;
@@ -13,69 +11,51 @@ pub(crate) const BEFORE: u32 = 4000000007;
 
 pub(crate) const BYTE_BEFORE: u8 = 255;
 
-pub(crate) fn number<W: Write>(out: &mut W, x: u64) -> io::Result<()> {
+fn number<W: Write>(out: &mut W, x: u64) -> io::Result<()> {
     write!(out, " {x}")
 }
 
-pub(crate) fn accepted<W: Write>(out: &mut W, value: u64) -> io::Result<()> {
-    number(out, 0)?;
-    number(out, value)
-}
-
-pub(crate) fn refused<W: Write>(out: &mut W, r: Refusal) -> io::Result<()> {
-    number(out, refusal::number(r))?;
-    number(out, refusal::also(r))
-}
-
-pub(crate) fn ran<W: Write>(out: &mut W, r: Ran) -> io::Result<()> {
-    match r {
-        Ran::Done => accepted(out, 0),
-        Ran::Refused(refusal) => refused(out, refusal),
+pub(crate) fn answered<W: Write>(out: &mut W, answer: Result<u64, Refusal>) -> io::Result<()> {
+    match answer {
+        Ok(value) => {
+            number(out, 0)?;
+            number(out, value)
+        }
+        Err(r) => {
+            number(out, r.number())?;
+            number(out, r.place_or_zero())
+        }
     }
+}
+
+// The same where the value counts rows or bytes.
+pub(crate) fn counted<W: Write>(out: &mut W, answer: Result<usize, Refusal>) -> io::Result<()> {
+    answered(out, answer.map(|n| n as u64))
+}
+
+// The same where there is no value: 0 in its place.
+pub(crate) fn done<W: Write>(out: &mut W, answer: Result<(), Refusal>) -> io::Result<()> {
+    answered(out, answer.map(|_| 0))
 }
 
 // A replay's answer has a second value: the numbers used, 0 where it is refused.
 pub(crate) fn replayed<W: Write>(out: &mut W, r: Replayed) -> io::Result<()> {
     match r {
         Replayed::Done(progress) => {
-            accepted(out, progress.ticks)?;
+            answered(out, Ok(progress.ticks))?;
             number(out, progress.used)
         }
         Replayed::Refused(refusal) => {
-            refused(out, refusal)?;
+            answered(out, Err(refusal))?;
             number(out, 0)
         }
     }
 }
 
-fn wide(word: u32) -> u64 {
-    word as u64
-}
-
 // Every word of a room.
-pub(crate) fn words<W: Write>(out: &mut W, room: &[u32]) -> io::Result<()> {
+pub(crate) fn words<W: Write, T: Copy + Into<u64>>(out: &mut W, room: &[T]) -> io::Result<()> {
     for word in room {
-        number(out, wide(*word))?;
-    }
-    Ok(())
-}
-
-// The same of wide words.
-pub(crate) fn wide_words<W: Write>(out: &mut W, room: &[u64]) -> io::Result<()> {
-    for word in room {
-        number(out, *word)?;
-    }
-    Ok(())
-}
-
-fn wide_byte(byte: u8) -> u64 {
-    byte as u64
-}
-
-// The same of bytes.
-pub(crate) fn bytes<W: Write>(out: &mut W, room: &[u8]) -> io::Result<()> {
-    for byte in room {
-        number(out, wide_byte(*byte))?;
+        number(out, (*word).into())?;
     }
     Ok(())
 }
@@ -83,10 +63,8 @@ pub(crate) fn bytes<W: Write>(out: &mut W, room: &[u8]) -> io::Result<()> {
 // One number that every word of a room bears on.
 fn digest(room: &[u64]) -> u64 {
     let mut sum = 0;
-    let mut i = 0;
-    while i < room.len() {
-        sum = (sum * 257 + room[i] % 4294967291) % 4294967291;
-        i += 1;
+    for word in room {
+        sum = (sum * 257 + word % 4294967291) % 4294967291;
     }
     sum
 }
@@ -103,12 +81,12 @@ fn state_length(state: &[u64]) -> usize
     if state.len() < 643 {
         return 0;
     }
-    held(words_of_rows(state[0]), state.len())
+    words_of_rows(state[0]).min(state.len() as u64) as usize
 }
 
 // A room for a state: its rows word by word, and all of it by its digest.
 pub(crate) fn state<W: Write>(out: &mut W, room: &[u64]) -> io::Result<()> {
     let n = state_length(room);
-    wide_words(out, &room[..n])?;
+    words(out, &room[..n])?;
     number(out, digest(room))
 }
