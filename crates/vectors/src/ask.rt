@@ -5,8 +5,6 @@ use crate::show::BEFORE;
 use refusal::Refusal;
 use std::io;
 use std::io::Write;
-use table::Checked;
-use verdict::{Measured, Verdict};
 
 // `1 m k job`: 1 for mandatory, 0 for optional.
 pub(crate) fn job<W: Write>(out: &mut W, case: &[u64]) -> io::Result<()> {
@@ -31,11 +29,7 @@ pub(crate) fn word<W: Write>(out: &mut W, case: &[u64]) -> io::Result<()> {
 pub(crate) fn check<W: Write>(out: &mut W, case: &[u64]) -> io::Result<()> {
     let mut table = [0u32; 256];
     let n = words_of(numbers_from(case, 1), &mut table);
-    let answer = match table::check(&table[..n]) {
-        Checked::Rows(rows) => Ok(rows),
-        Checked::Refused(r) => Err(r),
-    };
-    show::counted(out, answer)
+    show::counted(out, table::check(&table[..n]))
 }
 
 // A call that takes the numbers of a case from 2 on, laid into `given`, and a room of the length that number 1 asks for: its answer, and every
@@ -62,20 +56,10 @@ where
 
 // `4 length words`: the number of rows, and every word of a room of that length, at most 64.
 pub(crate) fn judge<W: Write>(out: &mut W, case: &[u64]) -> io::Result<()> {
-    over(out, case, &mut [0; 256], &mut [BEFORE; 64], |table, room| {
-        match verdict::judge(table, room) {
-            Verdict::Admitted(rows) => Ok(rows),
-            Verdict::Refused(r) => Err(r),
-        }
-    })
+    over(out, case, &mut [0; 256], &mut [BEFORE; 64], verdict::judge)
 }
 
 // `15 length words`: the number of rows, and every word of a room of that length, at most 64.
 pub(crate) fn rooms<W: Write>(out: &mut W, case: &[u64]) -> io::Result<()> {
-    over(out, case, &mut [0; 256], &mut [BEFORE; 64], |table, room| {
-        match verdict::rooms(table, room) {
-            Measured::Rows(rows) => Ok(rows),
-            Measured::Refused(r) => Err(r),
-        }
-    })
+    over(out, case, &mut [0; 256], &mut [BEFORE; 64], verdict::rooms)
 }

@@ -3,35 +3,14 @@ use crate::numbers::{low_at, number_at, numbers_from, part_of, words_of};
 use crate::show;
 use crate::show::BEFORE;
 use dispatch::counts::counts_words;
-use dispatch::held::{Marks, held_words};
-use dispatch::run::{Ran, run_words, tick_words};
-use dispatch::start::{Started, fresh_words};
+use dispatch::held::held_words;
+use dispatch::run::{run_words, tick_words};
+use dispatch::start::fresh_words;
 use dispatch::well::is_well;
 use refusal::Refusal;
 use replay::replay_words;
 use std::io;
 use std::io::Write;
-
-fn ran(r: Ran) -> Result<(), Refusal> {
-    match r {
-        Ran::Done => Ok(()),
-        Ran::Refused(refusal) => Err(refusal),
-    }
-}
-
-fn started(s: Started) -> Result<usize, Refusal> {
-    match s {
-        Started::Rows(rows) => Ok(rows),
-        Started::Refused(r) => Err(r),
-    }
-}
-
-fn held_marks(m: Marks) -> Result<u64, Refusal> {
-    match m {
-        Marks::Held(marks) => Ok(marks),
-        Marks::Refused(r) => Err(r),
-    }
-}
 
 // A fresh state of a table, whose words are these numbers, and what follows on it.
 fn over_fresh<W, F>(out: &mut W, case: &[u64], words: &[u64], then: F) -> io::Result<()>
@@ -44,7 +23,7 @@ where
     let mut state = [BEFORE as u64; 672];
     let n = words_of(words, &mut table);
     let length = part_of(case, 1, &state);
-    show::counted(out, started(fresh_words(&table[..n], &mut state[..length])))?;
+    show::counted(out, fresh_words(&table[..n], &mut state[..length]))?;
     then(out, &mut state[..length])
 }
 
@@ -70,7 +49,7 @@ where
     requires { F.IsAlwaysCallable then }
 {
     over_fresh(out, case, words, |out, state| {
-        show::done(out, ran(run_words(state, low_at(case, 2))))?;
+        show::done(out, run_words(state, low_at(case, 2)))?;
         damage(state, number_at(case, 3), number_at(case, 4));
         then(out, state)
     })
@@ -89,8 +68,8 @@ fn well(state: &[u64]) -> Result<(), Refusal> {
 pub(crate) fn damaged<W: Write>(out: &mut W, case: &[u64]) -> io::Result<()> {
     over_damaged(out, case, numbers_from(case, 6), |out, state| {
         show::done(out, well(state))?;
-        show::done(out, ran(tick_words(state)))?;
-        show::done(out, ran(run_words(state, low_at(case, 5))))?;
+        show::done(out, tick_words(state))?;
+        show::done(out, run_words(state, low_at(case, 5)))?;
         show::state(out, state)
     })
 }
@@ -101,8 +80,7 @@ pub(crate) fn counts<W: Write>(out: &mut W, case: &[u64]) -> io::Result<()> {
     over_damaged(out, case, numbers_from(case, 7), |out, state| {
         let mut room = [BEFORE as u64; 16];
         let length = part_of(case, 6, &room);
-        let answer = counts_words(state, low_at(case, 5), &mut room[..length]);
-        show::done(out, ran(answer))?;
+        show::done(out, counts_words(state, low_at(case, 5), &mut room[..length]))?;
         show::words(out, &room[..length])
     })
 }
@@ -111,7 +89,7 @@ pub(crate) fn counts<W: Write>(out: &mut W, case: &[u64]) -> io::Result<()> {
 // change.
 pub(crate) fn held<W: Write>(out: &mut W, case: &[u64]) -> io::Result<()> {
     over_damaged(out, case, numbers_from(case, 6), |out, state| {
-        show::answered(out, held_marks(held_words(state, low_at(case, 5))))
+        show::answered(out, held_words(state, low_at(case, 5)))
     })
 }
 

@@ -2,7 +2,7 @@
 ghost use Rattle.std.specs.Counts.{IsPrefixLen};
 
 use refusal::Refusal;
-use replay::Replayed;
+use replay::Progress;
 use std::io;
 use std::io::Write;
 
@@ -39,17 +39,9 @@ pub(crate) fn done<W: Write>(out: &mut W, answer: Result<(), Refusal>) -> io::Re
 }
 
 // A replay's answer has a second value: the numbers used, 0 where it is refused.
-pub(crate) fn replayed<W: Write>(out: &mut W, r: Replayed) -> io::Result<()> {
-    match r {
-        Replayed::Done(progress) => {
-            answered(out, Ok(progress.ticks))?;
-            number(out, progress.used)
-        }
-        Replayed::Refused(refusal) => {
-            answered(out, Err(refusal))?;
-            number(out, 0)
-        }
-    }
+pub(crate) fn replayed<W: Write>(out: &mut W, answer: Result<Progress, Refusal>) -> io::Result<()> {
+    answered(out, answer.map(|progress| progress.ticks))?;
+    number(out, answer.map_or(0, |progress| progress.used))
 }
 
 // Every word of a room.
