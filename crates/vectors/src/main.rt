@@ -20,23 +20,23 @@ fn answer<W: Write>(out: &mut W, case: &[u64]) -> io::Result<()> {
     let operation = number_at(case, 0);
     write!(out, "{operation}")?;
     match operation {
-        1 => ask::job(out, case)?,
-        2 => ask::word(out, case)?,
-        3 => ask::check(out, case)?,
-        4 => ask::judge(out, case)?,
-        5 => run::fresh(out, case)?,
-        6 => run::damaged(out, case)?,
-        7 => run::counts(out, case)?,
-        8 => texts::read(out, case)?,
-        9 => texts::write(out, case)?,
-        10 => texts::print(out, case)?,
-        11 => run::held(out, case)?,
-        12 => texts::to_new(out, case)?,
-        13 => texts::to_old(out, case)?,
-        14 => run::replay(out, case)?,
-        15 => ask::rooms(out, case)?,
-        _ => {}
-    }
+        1 => ask::job(out, case),
+        2 => ask::word(out, case),
+        3 => ask::check(out, case),
+        4 => ask::judge(out, case),
+        5 => run::fresh(out, case),
+        6 => run::damaged(out, case),
+        7 => run::counts(out, case),
+        8 => texts::read(out, case),
+        9 => texts::write(out, case),
+        10 => texts::print(out, case),
+        11 => run::held(out, case),
+        12 => texts::to_new(out, case),
+        13 => texts::to_old(out, case),
+        14 => run::replay(out, case),
+        15 => ask::rooms(out, case),
+        _ => Ok(()),
+    }?;
     out.write_all(b"\n")
 }
 
@@ -50,7 +50,7 @@ fn answer_all<W: Write>(out: &mut W, text: &[u8]) -> io::Result<()> {
     Ok(())
 }
 
-// A run of bytes for an input.
+// A run of bytes for an input. A Vec would rest on what is assumed of the C library's heap, which this program doesn't.
 fn large_room() -> [u8; 589824]
     ensures { 589824 ≡ length result }
 {

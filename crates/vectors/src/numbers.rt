@@ -17,8 +17,8 @@ pub(crate) fn numbers_of(line: &[u8], room: &mut [u64]) -> usize
         if byte.is_ascii_digit() {
             number = with_digit(number, *byte - b'0');
         } else {
-            if count < room.len() {
-                room[count] = number;
+            if let Some(place) = room.get_mut(count) {
+                *place = number;
                 count += 1;
             }
             number = 0;

@@ -34,14 +34,7 @@ pub(crate) fn fresh<W: Write>(out: &mut W, case: &[u64]) -> io::Result<()> {
     })
 }
 
-// One word of the state is changed, where it has that word.
-fn damage(state: &mut [u64], place: u64, value: u64) {
-    if place < state.len() as u64 {
-        state[place as usize] = value;
-    }
-}
-
-// A fresh state, n ticks and the damage, and what follows on it: every longer operation.
+// A fresh state, n ticks and the word at the place changed, where it has that word, and what follows on it: every longer operation.
 fn over_damaged<W, F>(out: &mut W, case: &[u64], words: &[u64], then: F) -> io::Result<()>
 where
     W: Write,
@@ -50,7 +43,9 @@ where
 {
     over_fresh(out, case, words, |out, state| {
         show::done(out, run_words(state, low_at(case, 2)))?;
-        damage(state, number_at(case, 3), number_at(case, 4));
+        if let Some(word) = state.get_mut(number_at(case, 3) as usize) {
+            *word = number_at(case, 4);
+        }
         then(out, state)
     })
 }

@@ -61,19 +61,18 @@ fn digest(room: &[u64]) -> u64 {
     sum
 }
 
-// How many words a head and so many rows have; a head alone, where no state has as many.
-fn words_of_rows(rows: u64) -> u64 {
-    if rows <= 32 { 3 + 20 * rows } else { 3 }
-}
-
-// How many words of a state are worth printing. A room too short for a state has none.
+// How many words of a state are worth printing: the head and its rows, and the head alone where no state has as many rows. A room too short for
+// a state has none.
 fn state_length(state: &[u64]) -> usize
     ensures { IsPrefixLen result state.now }
 {
     if state.len() < 643 {
         return 0;
     }
-    words_of_rows(state[0]).min(state.len() as u64) as usize
+    match state[0] {
+        rows @ 0..=32 => 3 + 20 * rows as usize,
+        _ => 3,
+    }
 }
 
 // A room for a state: its rows word by word, and all of it by its digest.
