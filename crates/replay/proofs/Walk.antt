@@ -132,5 +132,9 @@ module _ {log patterns : List ℕ} {s : State} {words : List ℕ} {n used done :
     record { is = λ vs e. w.is ∙ ap (λ (z : Replay). laid z.state) (sym last) },
   )
 
+pub walk_all : {log patterns : List ℕ} {s : State} {words : List ℕ} {n used done : ℕ} → Walk log patterns s words n used done → done ≡ n
+    → Walk log patterns s words n used n
+walk_all {log} {patterns} {s} {words} {n} {used} w e = subst (λ (z : ℕ). Walk log patterns s words n used z) e w
+
 pub never_accepted : {k : ℕ} {also vs : List ℕ} → refused (suc k) also ≡ accepted vs → ⊥
 never_accepted e = omega (arith, ap code_of e)

@@ -1,6 +1,7 @@
 -- How the answer of a replay is read, and what the routines of a tick with a log leave.
 use Rattle.std.specs.Prelude.{Bool, false, List, [], ◌∷◌, ◌≡◌, ℕ, Result, Ok, Err}
-use Rattle.law.specs.Refusal.{Answer, accepted}
+use Rattle.law.specs.Sums.{pick}
+use Rattle.law.specs.Refusal.{Answer, accepted, refused}
 use Rattle.law.specs.Tick.{State, begin}
 use Rattle.law.specs.State.{laid}
 use Rattle.law.specs.Replay.{Replay, logged, replayed}
@@ -16,6 +17,10 @@ replayed_shown (Err r) = shown r
 -- a replay that has come to a state and has used so many numbers; the ticks done don't matter to the next one
 abbrev pub under : State → ℕ → Replay
 under s used = record { state = s; ticks = 0; used = used }
+
+-- the answer of a step: the place of a number that is out of range, with its refusal, or the place after the numbers used
+abbrev pub stepped : Bool → ℕ → ℕ → Answer
+stepped bad place next = pick bad (refused 18 (place ∷ [])) (accepted (next ∷ []))
 
 -- the words after the releases of a tick whose numbers are in range
 pub record Begun (bad : Bool) (log : List ℕ) (x : Replay) (words : List ℕ) : Type 0 where

@@ -1,7 +1,7 @@
 // A replay: the same dispatcher, with the lengths of a log in place of C.
 #![tactic(auto)]
 
-ghost use Rattle.std.specs.Prelude.{◌≡◌, ◌+◌, ◌≤◌, length};
+ghost use Rattle.std.specs.Prelude.{◌≡◌, ◌+◌, ◌≤◌};
 ghost use Rattle.law.specs.Tick.{clock_end};
 ghost use Rattle.law.specs.State.{state_of};
 ghost use Rattle.law.specs.Replay.{replay_told, replay_answer, replay_words as replay_words_law};
@@ -33,41 +33,31 @@ pub struct After {
 
 // At most n ticks, one after the other, and none from the first on that releases more jobs than the log has left. Where a number is out of range
 // the words are left in the middle of a tick.
-fn replay_ticks(words: &mut [u64], patterns: &[u64], n: u64, log: &[u32]) -> Result<Progress, Refusal>
+fn replay_ticks(
+    words: &mut [u64],
+    patterns: &[u64],
+    n: u64,
+    log: &[u32],
+) -> Result<Progress, Refusal>
     requires { (Held 0 words.old) × ((state_of words.old).time + n ≤ clock_end) × (Fetched (state_of words.old).rows patterns.now) }
     ensures answer { replayed_shown result ≡ replay_told log.now n (state_of words.old) }
     ensures words { Handed (replayed_shown result) log.now n (state_of words.old) words.new }
 {
     let mut used = 0;
-    let mut done = 0;
-    while done < n {
+    for done in 0..n {
         if !enough(words, log.len() - used) {
-            break;
+            return Ok(Progress {
+                ticks: done,
+                used: used as u64,
+            });
         }
-        let step = release_logged(words, patterns, log, used);
-        if step.bad {
-            return Err(Refusal::Log(step.next as u64));
-        }
+        used = release_logged(words, patterns, log, used)?;
         finish(words);
-        used = step.next;
-        done += 1;
     }
     Ok(Progress {
-        ticks: done,
+        ticks: n,
         used: used as u64,
     })
-}
-
-// The words of one state become those of another.
-fn overwrite(words: &mut [u64], state: &[u64])
-    requires { length words.old ≡ length state.now }
-    ensures { words.new ≡ state.now }
-{
-    let mut i = 0;
-    while i < words.len() {
-        words[i] = state[i];
-        i += 1;
-    }
 }
 
 // A replay of a state that is lent as words. It is made on a copy, since a number out of range may stand late in the log: a refused replay
@@ -79,9 +69,9 @@ pub fn replay_words(words: &mut [u64], n: u32, log: &[u32]) -> Result<Progress, 
     may_run(words, n)?;
     let patterns = fetch(words);
     let mut copy = [0u64; 643];
-    overwrite(&mut copy, words);
+    copy.copy_from_slice(words);
     let progress = replay_ticks(&mut copy, &patterns, n as u64, log)?;
-    overwrite(words, &copy);
+    words.copy_from_slice(&copy);
     Ok(progress)
 }
 

@@ -2,6 +2,7 @@
 use mathlib.Core.Bool.{Bool, true, false, not}
 use mathlib.Core.List.{List}
 use mathlib.Core.Path.{◌≡◌, refl, sym, ap, ◌∙◌, subst}
+use mir.Val.{bool_byte}
 use Prim.Native.Nat.{ℕ, ◌+◌, ◌<◌}
 use native.Mathlib.Decide.{ℕ_discrete}
 use native.Mathlib.Omega.{arith}
@@ -34,6 +35,11 @@ time_word words = refl
 pub idle_word : (words : List ℕ) → get_or words 2 0 ≡ (state_of words).idle
 unfolding state_of
 idle_word words = refl
+
+-- a truth value as a number
+pub byte_bit : (b : Bool) → bool_byte b ≡ bit b
+byte_bit true = refl
+byte_bit false = refl
 
 -- the two words that a tick writes last
 pub counted : {words : List ℕ} → Laid words → (x : ℕ) (b : Bool) → x ≡ bit b

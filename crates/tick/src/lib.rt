@@ -3,7 +3,7 @@
 
 ghost use Rattle.std.specs.Prelude.{◌≡◌, ◌+◌, ◌≤◌, ◌<◌, eqb, ltb, length, get_or, Some, IfSome};
 ghost use Rattle.std.specs.Option.{is_none, unwrap_or};
-ghost use Rattle.law.specs.Sums.{bit, both, pick};
+ghost use Rattle.law.specs.Sums.{both, pick};
 ghost use Rattle.law.specs.Table.{word_of};
 ghost use Rattle.law.specs.Tick.{no_row, core_at, release_row, advance_row, choose as choose_law, full_length, begin, finish as finish_law, tick as tick_law, run as run_law, clock_end};
 ghost use Rattle.law.specs.State.{state_of, laid, with_row};
@@ -134,13 +134,6 @@ fn advance_all(words: &mut [u64], chosen: Option<usize>)
     for i in 0..rows_of(words) {
         advance_one(words, i, chosen == Some(i));
     }
-}
-
-// 1 for yes, 0 for no.
-pub fn one(b: bool) -> u64
-    ensures { (result ≡ bit b) × (result ≤ 1) }
-{
-    if b { 1 } else { 0 }
 }
 
 // Time goes on by one, and so does the idle count of an idle tick: words 1 and 2.

@@ -32,7 +32,7 @@ told : (c : After-replay_ticks) → replayed_shown c.replay_ticks.result
     ≡ replay_told c.args.log.now c.args.n (state_of c.args.words.now)
 told c =
     let s = c.args in
-    c.replay_ticks.ensures.answer ∙ ap (λ (z : List ℕ). replay_told s.log.now s.n (state_of z)) c.overwrite.ensures
+    c.replay_ticks.ensures.answer ∙ ap (λ (z : List ℕ). replay_told s.log.now s.n (state_of z)) c.copy_from_slice.ensures.after
 
 pub returns-in_err-may_run : goal.returns-in_err-may_run
 returns-in_err-may_run c =
@@ -43,22 +43,22 @@ returns-in_err-may_run c =
 pub fetch-patterns-requires : goal.fetch-patterns-requires
 fetch-patterns-requires c = held (goal.at.fetch-patterns-requires c).In_ok-may_run
 
-pub overwrite-requires : goal.overwrite-requires
-overwrite-requires c = sym (words_long (held (goal.at.overwrite-requires c).In_ok-may_run).laid)
+pub copy_from_slice-requires : goal.copy_from_slice-requires
+copy_from_slice-requires c = sym (words_long (held (goal.at.copy_from_slice-requires c).In_ok-may_run).laid)
 
 pub replay_ticks-requires : goal.replay_ticks-requires
 replay_ticks-requires c =
     let w = c.args.words.now in
-    let o = sym c.overwrite.ensures in (
+    let o = sym c.copy_from_slice.ensures.after in (
       subst (Held 0) o (held (goal.at.replay_ticks-requires c).In_ok-may_run),
       subst (λ (z : List ℕ). (state_of z).time + c.args.n ≤ clock_end) o (omega (arith, time_word w, run_early w c.args.n [] (allowed (goal.at.replay_ticks-requires c).In_ok-may_run))),
       subst (λ (z : List ℕ). Fetched (state_of z).rows c.fetch-patterns.result) o c.fetch-patterns.ensures.0,
     )
 
-pub overwrite-requires-2 : goal.overwrite-requires-2
-overwrite-requires-2 c =
-    let l = words_long (held (goal.at.overwrite-requires-2 c).In_ok-may_run).laid in
-    l ∙ sym (c.replay_ticks.auto.words ∙ ap length c.overwrite.ensures ∙ l)
+pub copy_from_slice-requires-2 : goal.copy_from_slice-requires-2
+copy_from_slice-requires-2 c =
+    let l = words_long (held (goal.at.copy_from_slice-requires-2 c).In_ok-may_run).laid in
+    l ∙ sym (c.replay_ticks.auto.words ∙ ap length c.copy_from_slice.ensures.after ∙ l)
 
 pub returns-in_err-progress : goal.returns-in_err-progress
 returns-in_err-progress c =
@@ -72,7 +72,7 @@ returns c =
     let shows = ap replayed_shown c.in_ok-progress.was in
     let e = sym (told (goal.at.returns c).After-replay_ticks) ∙ shows in record {
       answer = sym (replay_told_lem s.words.now s.n s.log.now (allowed (goal.at.returns c).In_ok-may_run) ∙ e);
-      words = c.overwrite-2.ensures ∙ c.replay_ticks.ensures.words.is _ shows
-          ∙ ap (λ (z : List ℕ). laid (replayed s.log.now s.n (state_of z)).state) c.overwrite.ensures
+      words = c.copy_from_slice-2.ensures.after ∙ c.replay_ticks.ensures.words.is _ shows
+          ∙ ap (λ (z : List ℕ). laid (replayed s.log.now s.n (state_of z)).state) c.copy_from_slice.ensures.after
           ∙ sym (replay_done s.words.now s.n s.log.now (allowed (goal.at.returns c).In_ok-may_run) _ e);
     }

@@ -1,21 +1,13 @@
 -- `tick::count_tick` meets its contract: two words of a state change, and both still fit.
-use mathlib.Core.Bool.{Bool, true, false}
-use mathlib.Core.Path.{◌≡◌, refl, ◌∙◌}
-use mir.Val.{bool_byte}
-use Rattle.law.specs.Sums.{bit}
+use mathlib.Core.Path.{◌∙◌}
 use Rattle.law.proofs.Tests.{bit_most}
 use Prim.Native.Nat.{◌+◌}
 use native.Mathlib.Omega.{arith}
 use lib.ListN.{get_or, length-set}
 use lib.Seq.{get_or-set_other}
 use Rattle.rows.proofs.Words.{words_long}
-use Rattle.tick.proofs.Chain.{time_word, idle_word, counted}
+use Rattle.tick.proofs.Chain.{byte_bit, time_word, idle_word, counted}
 use Rattle.tick.proofs.count_tick.Goals as goal
-
--- a truth value as a number
-byte_bit : (b : Bool) → bool_byte b ≡ bit b
-byte_bit true = refl
-byte_bit false = refl
 
 pub bounds-words-1 : goal.bounds-words-1
 bounds-words-1 c = omega (arith, words_long c.requires.0)

@@ -1,12 +1,14 @@
 -- `replay::step::due_rows` meets its contract: of the rows passed, those with wait 0 are counted.
 use mathlib.Core.List.{List}
-use mathlib.Core.Path.{◌≡◌, sym, ap, ◌∙◌}
+use mathlib.Core.Path.{◌≡◌, refl, sym, ap, ◌∙◌}
 use Prim.Native.Nat.{ℕ, ◌+◌, ◌≤◌, ◌<◌}
 use native.Mathlib.Numerals.{add-one}
 use native.Mathlib.Omega.{arith}
 use lib.Dec.{eqb}
 use lib.ListN.{length}
 use Rattle.law.specs.Sums.{bit}
+use Rattle.law.proofs.Tests.{bit_most}
+use Rattle.tick.proofs.Chain.{byte_bit}
 use Rattle.law.specs.Tick.{core_at, due as is_due}
 use Rattle.law.specs.Replay.{releases}
 use Rattle.law.specs.State.{state_of}
@@ -29,35 +31,26 @@ module _ {words : List ℕ} {rows due i : ℕ} (n : Counted words rows due i) wh
   counted-all : rows ≤ i → due ≡ releases (state_of words).rows (length (state_of words).rows)
   counted-all h = let e : i ≡ length (state_of words).rows = omega (arith, n.total, n.reached) in n.is ∙ ap (releases (state_of words).rows) e
 
-pub rows_of-rows-requires : goal.rows_of-rows-requires
-rows_of-rows-requires c = c.requires
-
 pub loop-i-init : goal.loop-i-init
 loop-i-init c =
     let p = c.requires in
-    record { laid = p; total = c.rows_of-rows.ensures; reached = omega arith; is = sym (releases_none _) }
+    record { laid = p; total = refl; reached = omega arith; is = sym (releases_none _) }
 
 pub word-requires : goal.word-requires
-word-requires c = let l = c.loop-i.invariant in (words_long l.laid, omega (arith, l.total, l.laid.few), omega arith)
+word-requires c = let l = c.loop-i.invariant in (words_long l.laid, omega (arith, l.laid.few, c.loop-i-test.true, c.rows_of-i-end.ensures), omega arith)
 
 pub overflow_add-due : goal.overflow_add-due
 overflow_add-due c =
     let l = c.loop-i in
-    omega (arith, l.invariant.is, releases_most (state_of c.args.words.now).rows l.i, l.invariant.total, l.invariant.laid.few, c.one-due.ensures.1)
-
-pub overflow_add-i : goal.overflow_add-i
-overflow_add-i c = let l = c.loop-i.invariant in omega (arith, l.total, l.laid.few)
-
-pub loop-i-smaller : goal.loop-i-smaller
-loop-i-smaller c = omega arith
+    omega (arith, l.invariant.is, releases_most (state_of c.args.words.now).rows l.i, l.invariant.total, l.invariant.laid.few, c.from-due.ensures, byte_bit (eqb c.word.result 0), bit_most (eqb c.word.result 0))
 
 pub loop-i-preserved : goal.loop-i-preserved
 loop-i-preserved c =
     let l = c.loop-i in
     let w = c.args.words.now in
-    let h : l.i < length (state_of w).rows = omega (arith, l.invariant.total) in
+    let h : l.i < length (state_of w).rows = omega (arith, c.loop-i-test.true, c.rows_of-i-end.ensures) in
     let wait = wait_read w l.i h _ c.word.ensures in
-    counted_next l.invariant (omega arith) _ (c.one-due.ensures.0 ∙ ap (λ (z : ℕ). bit (eqb z 0)) wait)
+    counted_next l.invariant h _ (c.from-due.ensures ∙ byte_bit (eqb c.word.result 0) ∙ ap (λ (z : ℕ). bit (eqb z 0)) wait)
 
 pub returns : goal.returns
-returns c = counted-all c.loop-i.invariant (omega arith)
+returns c = counted-all c.loop-i.invariant (omega (arith, c.loop-i-test.false, c.rows_of-i-end.ensures))

@@ -1,7 +1,7 @@
 -- `replay::step::due_rows` meets its contract: of the rows passed, those with wait 0 are counted.
 use mathlib.Core.List.{List}
 use mathlib.Core.Path.{◌≡◌}
-use Prim.Native.Nat.{ℕ, ◌-◌, ◌≤◌}
+use Prim.Native.Nat.{ℕ, ◌≤◌}
 use lib.ListN.{length}
 use Rattle.law.specs.Replay.{releases}
 use Rattle.law.specs.State.{state_of}
@@ -15,7 +15,4 @@ pub record Counted (words : List ℕ) (rows due i : ℕ) : Type 0 where
   pub is : due ≡ releases (state_of words).rows i
 
 abbrev pub invariant-loop-i : goal.invariant-loop-i
-invariant-loop-i l = Counted l.words l.rows l.due l.i
-
-abbrev pub decreases-loop-i : goal.decreases-loop-i
-decreases-loop-i l = l.rows - l.i
+invariant-loop-i l = Counted l.words (length (state_of l.words).rows) l.due l.i

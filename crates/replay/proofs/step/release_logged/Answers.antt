@@ -1,7 +1,7 @@
 -- `replay::step::release_logged` meets its contract: the rows passed have released, each with the next number, and none of these is out of range.
 use mathlib.Core.Bool.{true, false}
-use mathlib.Core.List.{List}
-use mathlib.Core.Path.{◌≡◌, sym, ap, ◌∙◌, subst}
+use mathlib.Core.List.{List, [], ◌∷◌}
+use mathlib.Core.Path.{◌≡◌, refl, sym, ap, ◌∙◌, subst}
 use Prim.Native.Nat.{ℕ, suc, ◌+◌, ◌-◌, ◌≤◌, ◌<◌}
 use native.Mathlib.Numerals.{add-one}
 use native.Mathlib.Omega.{arith}
@@ -18,6 +18,9 @@ use Rattle.law.proofs.Tests.{never_both}
 use Rattle.law.proofs.Replay.{releases_none, releases_next, releases_more}
 use Rattle.rows.specs.Said.{Timed}
 use Rattle.tick.proofs.Loops.{mapped_start, mapped_laid, mapped_rows, mapped_row, mapped_next, mapped_end}
+use Rattle.law.specs.Refusal.{accepted, refused}
+use Rattle.refusal.proofs.Passed.{passed_on}
+use Rattle.replay.proofs.Steps.{good_step, next_step, bad_step, place_step}
 use Rattle.replay.specs.Shown.{under}
 use Rattle.replay.proofs.step.release_logged.Invariants.{Going}
 use Rattle.replay.proofs.step.release_logged.Goals as goal
@@ -86,14 +89,11 @@ module _ {log patterns : List ℕ} {x : Replay} {words : List ℕ} {rows next i 
   unfolding begin release_all
   all-begun h = mapped_end g.mapped h
 
-pub rows_of-rows-requires : goal.rows_of-rows-requires
-rows_of-rows-requires c = c.requires.0.laid
-
 pub loop-i-init : goal.loop-i-init
 loop-i-init c =
     let rows = (state_of c.args.words.now).rows in
     record {
-      mapped = mapped_start _ _ _ c.requires.0.laid c.rows_of-rows.ensures;
+      mapped = mapped_start _ _ _ c.requires.0.laid refl;
       sound = c.requires.0.sound;
       fetched = c.requires.2;
       enough = c.requires.3;
@@ -101,49 +101,39 @@ loop-i-init c =
       searched = searched_start _ _;
     }
 
-pub offset_bounds-patterns-i : goal.offset_bounds-patterns-i
-offset_bounds-patterns-i c = let m = c.loop-i.invariant.mapped in omega (arith, m.total, m.few)
-
-pub bounds-patterns-i : goal.bounds-patterns-i
-bounds-patterns-i c =
-    let g = c.loop-i.invariant in
-    omega (arith, g.mapped.total, g.fetched.enough)
-
-pub release_next-step-requires : goal.release_next-step-requires
-release_next-step-requires c =
+pub release_next-requires : goal.release_next-requires
+release_next-requires c =
     let l = c.loop-i in
     let g = l.invariant in
-    let h = c.loop-i-test.true in (
+    let h : l.i < length (state_of c.args.words.now).rows = omega (arith, c.loop-i-test.true, c.rows_of-i-end.ensures) in (
       mapped_laid g.mapped,
-      omega (arith, mapped_rows g.mapped, g.mapped.total),
+      omega (arith, mapped_rows g.mapped, h),
       timed g h,
-      g.fetched.at l.i (omega (arith, g.mapped.total)) ∙ ap (λ (z : Core). word_of z.task) (sym (core-same g)),
+      g.fetched.at l.i h ∙ ap (λ (z : Core). word_of z.task) (sym (core-same g)),
       there g h,
     )
 
-pub returns-then-step : goal.returns-then-step
-returns-then-step c =
-    let k = c.release_next-step in
+pub returns-in_err-next : goal.returns-in_err-next
+returns-in_err-next c =
+    let e = c.release_next.ensures.next in
     let g = c.loop-i.invariant in
-    let h = c.loop-i-test.true in
-    let b = c.if-step.true in
-    let u = sym k.ensures.bad ∙ b in
-    let x = under (state_of c.args.words.now) c.args.used in record { bad = b ∙ sym (found_bad g h u); next = rw b ((rw b at k.ensures.next) ∙ g.so ∙ ap (place_of x) (sym (found g h u))); words = record { is = λ e. absurd (never_both _ b e) } }
-
-pub overflow_add-i : goal.overflow_add-i
-overflow_add-i c = let m = c.loop-i.invariant.mapped in omega (arith, m.total, m.few)
-
-pub loop-i-smaller : goal.loop-i-smaller
-loop-i-smaller c = omega arith
+    let h : c.loop-i.i < length (state_of c.args.words.now).rows = omega (arith, c.loop-i-test.true, c.rows_of-i-end.ensures) in
+    let u = bad_step _ _ _ _ e _ c.in_err-next.was in
+    let x = under (state_of c.args.words.now) c.args.used in
+    let bad = found_bad g h u in record {
+      next = passed_on _ _ c.from_residual.ensures.1 ∙ place_step _ _ _ _ e _ c.in_err-next.was ∙ ap (λ (z : ℕ). refused 18 (z ∷ [])) (g.so ∙ ap (place_of x) (sym (found g h u))) ∙ sym (rw bad);
+      words = record { is = λ e. absurd (never_both _ bad e) };
+    }
 
 pub loop-i-preserved : goal.loop-i-preserved
 loop-i-preserved c =
-    let k = c.release_next-step in
-    let b = c.if-step.false in
-    going_next c.loop-i.invariant _ _ c.loop-i-test.true (sym k.ensures.bad ∙ b) (rw b at k.ensures.next) (rw b at k.ensures.words)
+    let k = c.release_next.ensures in
+    let good = good_step _ _ _ _ k.next _ c.in_ok-next.was in
+    going_next c.loop-i.invariant _ _ (omega (arith, c.loop-i-test.true, c.rows_of-i-end.ensures)) good (next_step _ _ _ _ k.next _ c.in_ok-next.was) (rw good at k.words)
 
 pub returns : goal.returns
 returns c =
     let g = c.loop-i.invariant in
-    let h = c.loop-i-test.false in
-    record { bad = sym (none g h); next = all-used g h; words = record { is = λ e. all-begun g h } }
+    let h : length (state_of c.args.words.now).rows ≤ c.loop-i.i = omega (arith, c.loop-i-test.false, c.rows_of-i-end.ensures) in
+    let fine = none g h in
+    record { next = ap (λ (z : ℕ). accepted (z ∷ [])) (all-used g h) ∙ sym (rw fine); words = record { is = λ e. all-begun g h } }

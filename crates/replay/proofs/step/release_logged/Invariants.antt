@@ -1,7 +1,7 @@
 -- `replay::step::release_logged` meets its contract: the rows passed have released, each with the next number, and none of these is out of range.
 use mathlib.Core.List.{List}
 use mathlib.Core.Path.{◌≡◌}
-use Prim.Native.Nat.{ℕ, ◌-◌, ◌≤◌}
+use Prim.Native.Nat.{ℕ, ◌≤◌}
 use lib.ListN.{length}
 use Rattle.law.specs.Tick.{release_row}
 use Rattle.law.specs.State.{state_of}
@@ -22,7 +22,4 @@ pub record Going (log patterns : List ℕ) (x : Replay) (words : List ℕ) (rows
   pub searched : Searched (out_of_range log x) rows i
 
 abbrev pub invariant-loop-i : goal.invariant-loop-i
-invariant-loop-i l = Going l.log l.patterns (under (state_of l.initial.words) l.used) l.words l.rows l.next l.i
-
-abbrev pub decreases-loop-i : goal.decreases-loop-i
-decreases-loop-i l = l.rows - l.i
+invariant-loop-i l = Going l.log l.patterns (under (state_of l.initial.words) l.used) l.words (length (state_of l.initial.words).rows) l.next l.i

@@ -1,10 +1,11 @@
 -- `replay::step::release_next` meets its contract: a row that waits stays; else its number is in range and it is released with it, or it is not.
 use mathlib.Core.Bool.{true, false}
-use mathlib.Core.Path.{◌≡◌, refl, sym, ap, ◌∙◌}
+use mathlib.Core.Path.{◌≡◌, sym, ap, ◌∙◌}
+use mathlib.Core.List.{[], ◌∷◌}
 use Prim.Native.Nat.{ℕ}
 use native.Mathlib.Omega.{arith}
 use lib.ListN.{get_or}
-use Rattle.law.specs.Refusal.{within}
+use Rattle.law.specs.Refusal.{within, accepted}
 use Rattle.law.specs.Tick.{no_row, core_at}
 use Rattle.law.specs.State.{state_of}
 use Rattle.rows.proofs.Cases.{waits_on}
@@ -31,9 +32,12 @@ word-requires c = let p = c.requires in (words_long p.0, omega (arith, p.0.few),
 
 pub returns-then-word-ne0 : goal.returns-then-word-ne0
 returns-then-word-ne0 c =
-    let w = c.args.words.now in
-    let r = get_or (state_of w).rows c.args.i no_row in
-    let waits : r.core.wait ≡ 0 → ⊥ = λ e. c.if-word-ne0.true (wait (goal.at.returns-then-word-ne0 c).After-word ∙ e) in record { bad = sym (fits_waiting c.args.log.now c.args.next r.core waits); next = omega (arith, waiting_bit r.core waits); words = row_kept c.requires.0 c.args.i _ (sym (waits_on (get_or c.args.log.now c.args.next 0) r waits)) }
+    let log = c.args.log.now in
+    let r = get_or (state_of c.args.words.now).rows c.args.i no_row in
+    let waits : r.core.wait ≡ 0 → ⊥ = λ e. c.if-word-ne0.true (wait (goal.at.returns-then-word-ne0 c).After-word ∙ e) in record {
+      next = rw (fits_waiting log c.args.next r.core waits) (ap (λ (z : ℕ). accepted (z ∷ [])) (omega (arith, waiting_bit r.core waits)));
+      words = rw (fits_waiting log c.args.next r.core waits) (row_kept c.requires.0 c.args.i _ (sym (waits_on (get_or log c.args.next 0) r waits)));
+    }
 
 pub bounds-log-next : goal.bounds-log-next
 bounds-log-next c =
@@ -45,7 +49,8 @@ word-requires-2 c = let p = c.requires in (words_long p.0, omega (arith, p.0.few
 pub returns-then-not-is_within : goal.returns-then-not-is_within
 returns-then-not-is_within c =
     let core = core_at (state_of c.args.words.now).rows c.args.i in
-    record { bad = sym (unfit_due c.args.log.now c.args.next core (due (goal.at.returns-then-not-is_within c).Else-word-ne0) false (sym (ranged (goal.at.returns-then-not-is_within c).After-is_within) ∙ c.if-not-is_within.true)); next = refl; words = refl }
+    let bad = unfit_due c.args.log.now c.args.next core (due (goal.at.returns-then-not-is_within c).Else-word-ne0) false (sym (ranged (goal.at.returns-then-not-is_within c).After-is_within) ∙ c.if-not-is_within.true) in
+    record { next = rw bad; words = rw bad }
 
 pub release_row-requires : goal.release_row-requires
 release_row-requires c =
@@ -54,4 +59,6 @@ release_row-requires c =
 pub returns : goal.returns
 returns c =
     let core = core_at (state_of c.args.words.now).rows c.args.i in
-    let now = due (goal.at.returns c).Else-word-ne0 in record { bad = sym (unfit_due c.args.log.now c.args.next core now true (sym (ranged (goal.at.returns c).After-is_within) ∙ c.if-not-is_within.false)); next = omega (arith, due_bit core now); words = c.release_row.ensures }
+    let now = due (goal.at.returns c).Else-word-ne0 in
+    let good = unfit_due c.args.log.now c.args.next core now true (sym (ranged (goal.at.returns c).After-is_within) ∙ c.if-not-is_within.false) in
+    record { next = rw good (ap (λ (z : ℕ). accepted (z ∷ [])) (omega (arith, due_bit core now))); words = rw good c.release_row.ensures }
