@@ -6,3 +6,13 @@ pub mod held;
 pub mod run;
 pub mod start;
 pub mod well;
+
+use refusal::Refusal;
+use rows::State;
+
+// An answer, and the state after the call, which is handed back where it was refused too.
+#[derive(Clone, Copy, Debug, PartialEq, Eq)]
+pub struct After<T> {
+    pub answer: Result<T, Refusal>,
+    pub state: State,
+}

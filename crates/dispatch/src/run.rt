@@ -3,18 +3,12 @@ ghost use Rattle.std.specs.Prelude.{◌≡◌};
 ghost use Rattle.law.specs.State.{run_answer, run_words as run_words_law};
 ghost use Rattle.refusal.specs.Shown.{done};
 
+use crate::After;
 use crate::well::is_well;
 use refusal::Refusal;
 use rows::State;
 use tick::patterns::fetch;
 use tick::ticks;
-
-// A run's answer, and the state after it.
-#[derive(Clone, Copy)]
-pub struct After {
-    pub answer: Result<(), Refusal>,
-    pub state: State,
-}
 
 // Whether n ticks of a state can be made, or why not. It is looked at once, before the first of them.
 pub fn may_run(words: &[u64], n: u32) -> Result<(), Refusal>
@@ -50,7 +44,7 @@ pub fn tick_words(words: &mut [u64]) -> Result<(), Refusal>
 }
 
 // n ticks of a state that goes in by value and comes back.
-pub fn run(s: State, n: u32) -> After
+pub fn run(s: State, n: u32) -> After<()>
     ensures answer { done result.answer ≡ run_answer s.words n }
     ensures state { result.state.words ≡ run_words_law s.words n }
 {

@@ -7,18 +7,12 @@ ghost use Rattle.table.specs.Said.{task_said};
 ghost use Rattle.rows.specs.Said.{row_said};
 ghost use Rattle.refusal.specs.Shown.{answered};
 
+use crate::After;
 use book::low_bits;
 use refusal::Refusal;
 use rows::{Row, STATE_WORDS, State, put_row};
 use table::{Task, WIDTH, check, task_at};
 use tally::Tally;
-
-// The answer, and the state, which is all zero where it was refused.
-#[derive(Clone, Copy)]
-pub struct Begun {
-    pub answer: Result<usize, Refusal>,
-    pub state: State,
-}
 
 // A row before its first job: wait and place 0, nothing live, counts 0, a window of k met marks, so k of them held.
 fn fresh_row(task: Task) -> Row
@@ -72,14 +66,14 @@ pub fn fresh_words(table: &[u32], room: &mut [u64]) -> Result<usize, Refusal>
     Ok(rows)
 }
 
-// The fresh state of a table by value.
-pub fn fresh(table: &[u32]) -> Begun
+// The fresh state of a table by value; all zero where the table is refused.
+pub fn fresh(table: &[u32]) -> After<usize>
     ensures answer { answered result.answer ≡ fresh_answer table.now 643 }
     ensures state { result.state.words ≡ fresh_words_law table.now (replicate 643 0) }
 {
     let mut words = [0u64; 643];
     let answer = fresh_words(table, &mut words);
-    Begun {
+    After {
         answer,
         state: State { words },
     }

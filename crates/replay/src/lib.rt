@@ -10,6 +10,7 @@ ghost use Rattle.replay.specs.Shown.{replayed_shown, Handed};
 
 mod step;
 
+use dispatch::After;
 use dispatch::run::may_run;
 use refusal::Refusal;
 use rows::State;
@@ -18,17 +19,10 @@ use tick::finish;
 use tick::patterns::fetch;
 
 // Ticks done and numbers used.
-#[derive(Clone, Copy)]
+#[derive(Clone, Copy, Debug, PartialEq, Eq, Hash)]
 pub struct Progress {
     pub ticks: u64,
     pub used: u64,
-}
-
-// A replay's answer, and the state after it.
-#[derive(Clone, Copy)]
-pub struct After {
-    pub answer: Result<Progress, Refusal>,
-    pub state: State,
 }
 
 // At most n ticks, one after the other, and none from the first on that releases more jobs than the log has left. Where a number is out of range
@@ -76,7 +70,7 @@ pub fn replay_words(words: &mut [u64], n: u32, log: &[u32]) -> Result<Progress, 
 }
 
 // A replay of a state that goes in by value and comes back.
-pub fn replay(s: State, n: u32, log: &[u32]) -> After
+pub fn replay(s: State, n: u32, log: &[u32]) -> After<Progress>
     ensures answer { replayed_shown result.answer ≡ replay_answer s.words n log.now }
     ensures state { result.state.words ≡ replay_words_law s.words n log.now }
 {
