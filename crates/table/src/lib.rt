@@ -3,7 +3,7 @@
 
 ghost use Rattle.std.specs.Prelude.{◌≡◌, [], ◌∷◌, ◌++◌, ◌+◌, ◌*◌, ◌/◌, ◌<◌, ◌≤◌, length, get_or, take, drop, unwrap_or, IfSome, IfOk, IfErr};
 ghost use Rattle.law.specs.Refusal.{accepted, refused};
-ghost use Rattle.law.specs.Table.{WellFormed, task_at, table_of, row, repeated, RowNumber, fault_of, rows_checked, checked};
+ghost use Rattle.law.specs.Table.{Ranged, WellFormed, task_at, table_of, row, repeated, RowNumber, fault_of, rows_checked, checked};
 ghost use Rattle.refusal.specs.Shown.{shown, answered};
 ghost use Rattle.table.specs.Said.{task_said};
 
@@ -173,11 +173,12 @@ impl<'a> Table<'a> {
         self.words.len() / WIDTH
     }
 
-    // Row i.
+    // Row i, which is in its ranges.
     #[tactic(auto, using(law::proofs::Table::table_length, law::proofs::Table::table_row))]
     pub fn task(self, i: usize) -> Task
         requires { i < length (table_of self.words.now) }
-        ensures { task_said result ≡ row (table_of self.entry.words.now) i }
+        ensures said { task_said result ≡ row (table_of self.entry.words.now) i }
+        ensures ranged { Ranged (task_said result) }
     {
         task_at(self.words, i)
     }

@@ -1,1 +1,4 @@
+pub mod Laid
+pub mod Responses
+pub mod Seeking
 pub mod Walk

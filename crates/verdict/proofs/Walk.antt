@@ -1,21 +1,22 @@
 -- A stretch: what rows above bring is the same at each of its ticks, so that t less that is largest at its end. And what a walk from stretch to stretch, with
 -- its leaps, knows of the room.
 use mathlib.Core.List.{List}
-use mathlib.Core.Path.{◌≡◌, ap}
-use Prim.Native.Nat.{ℕ, zero, suc, ◌+◌, ◌-◌, ◌*◌, ◌≤◌, ◌<◌}
+use mathlib.Core.Path.{◌≡◌, refl, ap}
+use Prim.Native.Nat.{ℕ, zero, suc, ◌+◌, ◌-◌, ◌*◌, ◌≤◌, ◌<◌, min, max}
 use native.Mathlib.Decide.{dec_lt}
 use native.Mathlib.Nat.{le_antisymm}
+use native.Mathlib.Numerals.{add-one}
 use native.Mathlib.Omega.{arith}
 use lib.ListN.{length}
 use borrow.Author.Tests.{le-leb, lt-leb}
-use Rattle.law.specs.Sums.{smaller, ceil}
+use Rattle.law.specs.Sums.{sum, smaller, ceil}
 use Rattle.law.specs.Table.{Task, row, count_of, Ranged, WellFormed}
 use Rattle.law.specs.Verdict.{demand, above}
 use Rattle.law.specs.Room.{room_at, room}
 use Rattle.law.proofs.Ceil.{ceil_low, ceil_high, ceil_only}
 use Rattle.law.proofs.Sums.{sum_cong}
-use Rattle.law.proofs.Verdict.{above_mono}
-use Rattle.law.proofs.Room.{room_at_lem, room_least}
+use Rattle.law.proofs.Verdict.{above_mono, above_small}
+use Rattle.law.proofs.Room.{room_at_lem, room_least, room_most}
 use Rattle.verdict.specs.Stretch.{lowest, next_release, until_of}
 
 -- the smaller of two numbers
@@ -25,6 +26,9 @@ module _ (a b : ℕ) where
 
   pub smaller_else : b < a → smaller a b ≡ b
   smaller_else h = rw (lt-leb a b h)
+
+  pub smaller_min : min a b ≡ smaller a b
+  smaller_min = elim (dec_lt b a) [ | yes h ↦ omega (arith, smaller_else h) | no h ↦ omega (arith, smaller_is (omega arith)) ]
 
 -- the smallest of an end and n values: none of them is smaller, and what is no larger than any is no larger than it
 module _ (end : ℕ) (f : ℕ → ℕ) where
@@ -99,34 +103,66 @@ module _ (tasks : List Task) (w : WellFormed tasks) (i : ℕ) (h : i < length ta
   unfolding room_at
   nothing_between u l k = omega (arith, same_above u l k, same_above (until_of tasks i t) (omega arith) (omega arith))
 
+-- of the rows above row i the first j are asked: what they bring by t, and when the first of them releases, the end of the row's own ticks at the latest
+pub record IsAskedUpTo (tasks : List Task) (i t j brought until : ℕ) : Type 0 where
+  pub brought_is : brought ≡ above tasks j t
+  pub until_is : until ≡ lowest (row tasks i).d (λ j. next_release (row tasks j) t) j
+
+pub none_asked : (tasks : List Task) (i t until : ℕ) → until ≡ (row tasks i).d → IsAskedUpTo tasks i t 0 0 until
+unfolding sum lowest
+none_asked tasks i t until e = record { brought_is = refl; until_is = e }
+
+pub one_asked : (tasks : List Task) (i t j brought until : ℕ) (r : Task) → IsAskedUpTo tasks i t j brought until → r ≡ row tasks j
+    → (x y z : ℕ) → x ≡ demand r t → y ≡ next_release r t → z ≡ min until y → IsAskedUpTo tasks i t (j + 1) (brought + x) z
+unfolding sum lowest
+one_asked tasks i t j brought until r s e x y z b u f =
+    record {
+      brought_is = rw (add-one, b, e, s.brought_is) refl;
+      until_is = rw (add-one, f, smaller_min, u, e, s.until_is) refl;
+    }
+
 -- what a walk that has come to t knows: the best found is no more than the room, and no tick before t has more to give
 pub record Walked (tasks : List Task) (i t best : ℕ) : Type 0 where
   pub started : 1 ≤ t
   pub no_more : best ≤ room tasks i
   pub passed : (u : ℕ) → 1 ≤ u → u < t → u ≤ (row tasks i).d → room_at tasks i u ≤ best
 
-pub walked_start : (tasks : List Task) (i : ℕ) → 1 ≤ (row tasks i).d → Walked tasks i 1 (room_at tasks i (row tasks i).d)
-walked_start tasks i low =
-    record { started = omega arith; no_more = room_at_lem tasks i (row tasks i).d low (omega arith); passed = λ u l k q. absurd (omega arith) }
+pub walked_start : (tasks : List Task) (i d best : ℕ) → d ≡ (row tasks i).d → 1 ≤ d → best ≡ room_at tasks i d → Walked tasks i 1 best
+walked_start tasks i d best e low b =
+    record {
+      started = omega arith;
+      no_more = rw (b, e) (room_at_lem tasks i (row tasks i).d (omega arith) (omega arith));
+      passed = λ u l k q. absurd (omega arith);
+    }
 
-module _ {tasks : List Task} {i t best : ℕ} (s : Walked tasks i t best) where
-  pub walked_end : (row tasks i).d < t → best ≡ room tasks i
-  walked_end h = le_antisymm s.no_more (room_least tasks i best (λ u l k. s.passed u l (omega arith) k))
+pub walked_end : {tasks : List Task} {i t best d : ℕ} → Walked tasks i t best → d ≡ (row tasks i).d → d < t → best ≡ room tasks i
+walked_end {tasks} {i} {t} {best} s e h = le_antisymm s.no_more (room_least tasks i best (λ u l k. s.passed u l (omega arith) k))
 
-  -- one stretch on, with the better of the best and what its end gives: ticks up to the best and what rows above bring are passed
-  module _ (w : WellFormed tasks) (h : i < length tasks) (l : t ≤ (row tasks i).d) where
-    pub walked_better : until_of tasks i t - above tasks i t ≤ room tasks i
-    walked_better =
-        omega (arith, end_room tasks w i h t l, room_at_lem tasks i (until_of tasks i t) (omega (arith, s.started, until_from tasks w i h t l)) (until_end tasks w i h t))
+-- one stretch on, with the better of the best and what its end gives: ticks up to the best and what rows above bring are passed
+pub record Turned (tasks : List Task) (i t brought best : ℕ) : Type 0 where
+  pub walked : Walked tasks i (best + brought + 1) best
+  pub past : t ≤ best + brought
+  pub small : best + brought ≤ 65535 + 32 * (65535 * 65535)
 
-    pub walked_on : (next : ℕ) → best ≤ next → next ≤ room tasks i → (to : ℕ) → to ≡ next + above tasks i t + 1 → Walked tasks i to next
-    unfolding room_at
-    walked_on next b n to e =
-        record {
+module _ {tasks : List Task} (w : WellFormed tasks) {i t best : ℕ} (h : i < length tasks) (s : Walked tasks i t best) {d : ℕ} (e : d ≡ (row tasks i).d) (l : t ≤ d) where
+  better : until_of tasks i t - above tasks i t ≤ room tasks i
+  better =
+      omega (arith, end_room tasks w i h t (omega arith), room_at_lem tasks i (until_of tasks i t) (omega (arith, s.started, until_from tasks w i h t (omega arith))) (until_end tasks w i h t))
+
+  pub turned : {brought until left next : ℕ} → brought ≡ above tasks i t → until ≡ until_of tasks i t → left ≡ until - brought → next ≡ max best left → Turned tasks i t brought next
+  unfolding room_at
+  turned {brought} {until} {left} {next} b u x y =
+      let r = w.ranged i h in
+      let no_more : next ≤ room tasks i = omega (arith, s.no_more, better) in
+      record {
+        walked = record {
           started = omega arith;
-          no_more = n;
-          passed = λ u a k q. elim (dec_lt u t) [
-            | yes before ↦ omega (arith, s.passed u a before q)
-            | no after ↦ omega (arith, above_mono tasks w i h t u (omega arith))
+          no_more = no_more;
+          passed = λ v a k q. elim (dec_lt v t) [
+            | yes before ↦ omega (arith, s.passed v a before q)
+            | no after ↦ omega (arith, above_mono tasks w i h t v (omega arith))
           ];
-        }
+        };
+        past = omega (arith, until_from tasks w i h t (omega arith));
+        small = omega (arith, no_more, room_most tasks i, r.d_high, r.t_high, above_small tasks w i (omega arith) t (omega (arith, r.d_high, r.t_high)), w.rows_high);
+      }

@@ -1,23 +1,7 @@
--- `verdict::stretch` meets its contract: the demand of the rows passed and their next release; the sum stays far below 64 bits.
-use mathlib.Core.List.{List}
-use mathlib.Core.Path.{◌≡◌}
-use Prim.Native.Nat.{ℕ, ◌-◌, ◌/◌, ◌≤◌, ◌<◌}
-use lib.ListN.{length}
-use Rattle.law.specs.Table.{table_of, row, WellFormed}
-use Rattle.law.specs.Verdict.{above}
-use Rattle.verdict.specs.Stretch.{lowest, next_release}
+-- `verdict::stretch`: what the rows asked bring, and when the first of them releases.
+use Rattle.law.specs.Table.{table_of}
+use Rattle.verdict.proofs.Walk.{IsAskedUpTo}
 use Rattle.verdict.proofs.stretch.Given as goal
 
-pub record Asked (words : List ℕ) (i t brought until j : ℕ) : Type 0 where
-  pub table : WellFormed (table_of words)
-  pub is_row : i < length words / 7
-  pub tick : t ≤ 65535
-  pub reached : j ≤ i
-  pub sum_is : brought ≡ above (table_of words) j t
-  pub until-is : until ≡ lowest (row (table_of words) i).d (λ j. next_release (row (table_of words) j) t) j
-
 abbrev pub invariant-loop-j : goal.invariant-loop-j
-invariant-loop-j l = Asked l.words l.row l.t l.brought l.until l.j
-
-abbrev pub decreases-loop-j : goal.decreases-loop-j
-decreases-loop-j l = l.row - l.j
+invariant-loop-j l = IsAskedUpTo (table_of l.table.words.now) l.row l.t l.j l.brought l.until
