@@ -1,7 +1,7 @@
 -- The search of a row: one with more C than room never fits; otherwise no tick before t fits, and a leap to the load at t passes over none that does.
 use mathlib.Core.List.{List}
 use mathlib.Core.Path.{◌≡◌, ap, ◌∙◌}
-use Prim.Native.Nat.{ℕ, ◌+◌, ◌*◌, ◌≤◌, ◌<◌}
+use Prim.Native.Nat.{ℕ, ◌+◌, ◌≤◌, ◌<◌}
 use native.Mathlib.Omega.{arith}
 use lib.ListN.{length}
 use borrow.Author.Tests.{lt-leb}
@@ -9,44 +9,55 @@ use Rattle.std.specs.Prelude.{None, Some}
 use Rattle.law.specs.Table.{Task, row, WellFormed}
 use Rattle.law.specs.Verdict.{above, load}
 use Rattle.law.specs.Room.{room as room_law}
-use Rattle.law.proofs.Verdict.{Sought, above_small, sought_fits, sought_leap, fits_yes}
+use Rattle.law.proofs.Verdict.{Sought, sought_start, sought_fits, sought_leap, fits_yes}
 use Rattle.law.proofs.Room.{fits_room, sought_within}
 use Rattle.verdict.specs.Said.{fit_of}
 
-module _ {tasks : List Task} (w : WellFormed tasks) {i : ℕ} (h : i < length tasks) {r : Task} (e : r ≡ row tasks i) {room : ℕ} (f : room ≡ room_law tasks i) where
-  own : r.c ≡ (row tasks i).c
-  own = ap (λ (z : Task). z.c) e
+-- what a search that has come to t knows of a row and its room
+pub record IsSeeking (tasks : List Task) (i : ℕ) (own : Task) (room t : ℕ) : Type 0 where
+  pub table : WellFormed tasks
+  pub is_row : i < length tasks
+  pub own_is : own ≡ row tasks i
+  pub sought : Sought tasks i t
+  pub never : room < own.c → None ≡ fit_of tasks i
+  pub within : own.c ≤ room → t ≤ own.d
+
+module _ (tasks : List Task) (i : ℕ) (own : Task) (room : ℕ) (w : WellFormed tasks) (h : i < length tasks) (e : own ≡ row tasks i) (f : room ≡ room_law tasks i) where
+  same_c : own.c ≡ (row tasks i).c
+  same_c = ap (λ (z : Task). z.c) e
 
   some : 1 ≤ (row tasks i).c
   some = (w.ranged i h).c_low
 
-  pub never : room < r.c → None ≡ fit_of tasks i
+  none_fits : room < own.c → None ≡ fit_of tasks i
   unfolding fit_of
-  never l = rw (fits_room tasks i some ∙ lt-leb (row tasks i).c (room_law tasks i) (omega (arith, own)))
+  none_fits l = rw (fits_room tasks i some ∙ lt-leb (row tasks i).c (room_law tasks i) (omega (arith, same_c)))
 
-  -- a row with room enough
-  module _ {t : ℕ} (s : Sought tasks i t) (g : r.c ≤ room) where
-    pub within : t ≤ r.d
-    within = omega (arith, sought_within tasks i t s some (omega (arith, own)), ap (λ (z : Task). z.d) e)
+  come_to : (t : ℕ) → Sought tasks i t → IsSeeking tasks i own room t
+  come_to t s =
+      record {
+        table = w;
+        is_row = h;
+        own_is = e;
+        sought = s;
+        never = none_fits;
+        within = λ g. omega (arith, ap (λ (z : Task). z.d) e, sought_within tasks i t s some (omega (arith, same_c)));
+      }
 
-    pub small : t ≤ 65535
-    small = let q = w.ranged i h in omega (arith, sought_within tasks i t s some (omega (arith, own)), q.d_high, q.t_high)
+  pub seeking_start : IsSeeking tasks i own room 1
+  seeking_start = come_to 1 (sought_start tasks i)
 
-    module _ {brought : ℕ} (b : brought ≡ above tasks i t) where
-      load_is : r.c + brought ≡ load tasks i t
-      unfolding load
-      load_is = omega (arith, own)
+  module _ (t brought : ℕ) (s : IsSeeking tasks i own room t) (g : own.c ≤ room) (b : brought ≡ above tasks i t) where
+    load_is : own.c + brought ≡ load tasks i t
+    unfolding load
+    load_is = omega (arith, same_c)
 
-      pub load_small : r.c + brought ≤ 65535 + 32 * (65535 * 65535)
-      load_small =
-          let q = w.ranged i h in
-          omega (arith, own, q.c_high, above_small tasks w i (omega arith) t small, w.rows_high)
+    pub leap : t < own.c + brought → IsSeeking tasks i own room (own.c + brought)
+    leap l = come_to (own.c + brought) (rw load_is (sought_leap tasks w i h t s.sought (rw load_is at l)))
 
-      pub leap : t < r.c + brought → Sought tasks i (r.c + brought)
-      leap l = rw load_is (sought_leap tasks w i h t s (rw load_is at l))
-
-      pub found : r.c + brought ≤ t → Some t ≡ fit_of tasks i
-      unfolding fit_of
-      found l =
-          let here = sought_fits tasks i t s (sought_within tasks i t s some (omega (arith, own))) (rw load_is at l) in
-          rw (fits_yes tasks i (omega (arith, sought_within tasks i t s some (omega (arith, own)), here)), here)
+    pub found : own.c + brought ≤ t → Some t ≡ fit_of tasks i
+    unfolding fit_of
+    found l =
+        let d = ap (λ (z : Task). z.d) e in
+        let here = sought_fits tasks i t s.sought (omega (arith, s.within g, d)) (rw load_is at l) in
+        rw (fits_yes tasks i (omega (arith, s.within g, d, here)), here)

@@ -114,6 +114,7 @@ fn search_room(table: Table, row: usize) -> u64
 
 // The first tick that fits a row, or that none does, which is when its C is above its room: both are the loop's answers. Where the load at t is above t, no
 // tick up to that load fits: the search goes on there.
+#[tactic(auto, using(crate::proofs::Seeking::seeking_start, crate::proofs::Seeking::leap, crate::proofs::Seeking::found, law::proofs::Verdict::above_small))]
 fn search(table: Table, row: usize) -> Option<u64>
     requires { row < length (table_of table.words.now) }
     ensures { result ≡ fit_of (table_of table.entry.words.now) row }
