@@ -2,7 +2,7 @@
 ghost use Rattle.std.specs.Prelude.{[], ◌≡◌, ◌≤◌, ◌<◌, ◌+◌, length, get_or, true};
 ghost use Rattle.law.specs.Text.{is_digit, is_value, number_of, row_keys};
 ghost use Rattle.law.specs.Reading.{byte_at, key_length, digits_length, value_length, value_at, line_at};
-ghost use Rattle.line.specs.Said.{said};
+ghost use Rattle.line.specs.Said.{said, place_of};
 
 use crate::key::key_of;
 use refusal::is_within;
@@ -94,7 +94,8 @@ fn number(digits: &[u8]) -> u64
 // The value at a place, and LF behind it.
 fn value_at(text: &[u8], at: usize) -> Result<Line, Fault>
     requires { at ≤ length text.now }
-    ensures { said result ≡ value_at text.now at }
+    ensures found { said result ≡ value_at text.now at }
+    ensures inside { place_of result ≤ length text.now }
 {
     let n = value_length(text, at);
     let end = at + n;
@@ -110,7 +111,8 @@ fn value_at(text: &[u8], at: usize) -> Result<Line, Fault>
 // The line of a key at a place.
 pub fn line_at(text: &[u8], at: usize, key: &[u8]) -> Result<Line, Fault>
     requires { at ≤ length text.now }
-    ensures { said result ≡ line_at text.now at key.now }
+    ensures found { said result ≡ line_at text.now at key.now }
+    ensures inside { place_of result ≤ length text.now }
 {
     let n = keyed_at(text, at, key);
     if n != key.len() {
@@ -122,7 +124,8 @@ pub fn line_at(text: &[u8], at: usize, key: &[u8]) -> Result<Line, Fault>
 // The line that is due at a place, j being its number within its row.
 pub fn due_at(text: &[u8], at: usize, j: usize) -> Result<Line, Fault>
     requires { (at ≤ length text.now) × (j < 7) }
-    ensures { said result ≡ line_at text.now at (get_or row_keys j []) }
+    ensures found { said result ≡ line_at text.now at (get_or row_keys j []) }
+    ensures inside { place_of result ≤ length text.now }
 {
     line_at(text, at, key_of(j))
 }

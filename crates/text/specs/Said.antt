@@ -1,14 +1,18 @@
 -- How the reader's answers are read as the law's.
-use Rattle.std.specs.Prelude.{List, ℕ, ◌*◌, take, Result, Ok, Err}
+use Rattle.std.specs.Prelude.{List, [], ◌∷◌, ℕ, ◌*◌, take, Result, Ok, Err}
 use Rattle.law.specs.Reading.{Found, found, fault}
 use Rattle.refusal.specs.declared.Refusal.{Refusal}
-use Rattle.text.specs.declared.read.Rest.{Rest}
-use Rattle.text.specs.declared.read.Rest.TheVariants.{Next, Broken}
+use Rattle.line.specs.declared.read.Fault.{Fault}
 
--- a run of lines with these values: the place after them, or the place of a fault
-abbrev pub told : Rest → List ℕ → Found
-told (Next next) values = found values next
-told (Broken j) values = fault j
+-- a value, and the place that the reader stands at after it; or the place of a fault
+abbrev pub told : Result ℕ Fault → ℕ → Found
+told (Ok v) next = found (v ∷ []) next
+told (Err f) next = fault next
+
+-- a run of lines with these values, and the place that the reader stands at after them; or the place of a fault
+abbrev pub ended : Result Unit Fault → List ℕ → ℕ → Found
+ended (Ok u) values next = found values next
+ended (Err f) values next = fault next
 
 -- the words of a text's rows that stand from the start of these words, so many a row; of a refused text those that were to stand there
 abbrev pub stood : Result ℕ Refusal → ℕ → List ℕ → List ℕ → List ℕ

@@ -1,77 +1,69 @@
 // Task text read whole: rows of so many lines, their table, and the words laid into a lent room. Each caller of the reader takes its
 // answer apart and stops at a fault.
-ghost use Rattle.std.specs.Prelude.{◌≡◌, ◌≤◌, ◌<◌, ◌*◌, length, take, drop};
+ghost use Rattle.std.specs.Prelude.{◌≡◌, ◌≤◌, ◌<◌, ◌*◌, length, take, IfErr};
 ghost use Rattle.law.specs.Text.{row_keys, keys_of};
 ghost use Rattle.law.specs.Reading.{lines_at, rows_at, words_read, text_answer, read_answer, read_room};
 ghost use Rattle.refusal.specs.Shown.{answered};
-ghost use Rattle.text.specs.Said.{told, stood};
+ghost use Rattle.text.specs.Said.{ended, stood};
 
-use crate::reader::value_from;
-use line::read::{Value, line_at, place};
+use crate::reader::Reader;
+use line::read::Fault;
 use refusal::Refusal;
 use table::{WIDTH, check, lay};
 
-// Where a run of lines ends: the place after them; or the place of a fault.
-#[derive(Clone, Copy)]
-pub(crate) enum Rest {
-    Next(usize),
-    Broken(usize),
+// The lines of a row of that many, as its words; the reader then stands behind them, or at the fault.
+fn row_at(reader: &mut Reader, row: &mut [u32]) -> Result<(), Fault>
+    requires { length row.old ≤ 7 }
+    ensures read { ended result row.new reader.new.at ≡ lines_at reader.old.text.now reader.old.at (take (length row.old) row_keys) }
+    ensures stops { IfErr result (λ f. f.place ≡ reader.new.at) }
+    ensures text { reader.new.text ≡ reader.old.text }
+    ensures length { length row.new ≡ length row.old }
+{
+    for (j, word) in row.iter_mut().enumerate() {
+        let Ok(value) = reader.next_value(j) else {
+            return Err(Fault { place: reader.at });
+        };
+        *word = value as u32;
+    }
+    Ok(())
 }
 
-// The first `width` lines of a row, from a place on, as words of that row.
-fn row_at(text: &[u8], from: usize, words: &mut [u32; 224], row: usize, width: usize) -> Rest
-    requires { (from ≤ length text.now) × (length words.old ≡ 224) × (row < 32) × (width ≤ 7) }
-    ensures read { told result (take width (drop (row * width) words.new)) ≡ lines_at text.now from (take width row_keys) }
-    ensures kept { take (row * width) words.new ≡ take (row * width) words.old }
+// The lines of so many rows, as words from the start.
+fn rows_at(
+    reader: &mut Reader,
+    words: &mut [u32; 224],
+    rows: usize,
+    width: usize,
+) -> Result<(), Fault>
+    requires { (length words.old ≡ 224) × (rows ≤ 32) × (width ≤ 7) }
+    ensures read { ended result (take (rows * width) words.new) reader.new.at ≡ lines_at reader.old.text.now reader.old.at (keys_of (take width row_keys) rows) }
+    ensures stops { IfErr result (λ f. f.place ≡ reader.new.at) }
+    ensures text { reader.new.text ≡ reader.old.text }
     ensures length { length words.new ≡ 224 }
 {
-    let mut at = from;
-    let mut j = 0;
-    while j < width {
-        let answer = value_from(text, at, j);
-        let Value::Is(v, next) = answer else {
-            return Rest::Broken(place(answer));
-        };
-        words[row * width + j] = v as u32;
-        at = next;
-        j += 1;
+    for i in 0..rows {
+        row_at(reader, &mut words[i * width..(i + 1) * width])?;
     }
-    Rest::Next(at)
-}
-
-// The lines of so many rows, from a place on, as words from the start.
-fn rows_at(text: &[u8], from: usize, words: &mut [u32; 224], rows: usize, width: usize) -> Rest
-    requires { (from ≤ length text.now) × (length words.old ≡ 224) × (rows ≤ 32) × (width ≤ 7) }
-    ensures read { told result (take (rows * width) words.new) ≡ lines_at text.now from (keys_of (take width row_keys) rows) }
-    ensures length { length words.new ≡ 224 }
-{
-    let mut at = from;
-    let mut i = 0;
-    while i < rows {
-        let rest = row_at(text, at, words, i, width);
-        let Rest::Next(next) = rest else {
-            return rest;
-        };
-        at = next;
-        i += 1;
-    }
-    Rest::Next(at)
+    Ok(())
 }
 
 // The same, and nothing after them.
-fn rows_to_end(text: &[u8], from: usize, words: &mut [u32; 224], rows: usize, width: usize) -> Rest
-    requires { (from ≤ length text.now) × (length words.old ≡ 224) × (rows ≤ 32) × (width ≤ 7) }
-    ensures read { told result (take (rows * width) words.new) ≡ rows_at (take width row_keys) text.now from rows }
+fn rows_to_end(
+    reader: &mut Reader,
+    words: &mut [u32; 224],
+    rows: usize,
+    width: usize,
+) -> Result<(), Fault>
+    requires { (length words.old ≡ 224) × (rows ≤ 32) × (width ≤ 7) }
+    ensures read { ended result (take (rows * width) words.new) reader.new.at ≡ rows_at (take width row_keys) reader.old.text.now reader.old.at rows }
+    ensures stops { IfErr result (λ f. f.place ≡ reader.new.at) }
     ensures length { length words.new ≡ 224 }
 {
-    let rest = rows_at(text, from, words, rows, width);
-    let Rest::Next(end) = rest else {
-        return rest;
-    };
-    if end != text.len() {
-        return Rest::Broken(end);
+    rows_at(reader, words, rows, width)?;
+    if reader.at != reader.text.len() {
+        return Err(Fault { place: reader.at });
     }
-    rest
+    Ok(())
 }
 
 // A text whose rows have the first `width` lines of a row: the number of its rows, whose words then stand from the start of `words`, so many a
@@ -82,9 +74,9 @@ pub fn rows_of(text: &[u8], words: &mut [u32; 224], width: usize) -> Result<usiz
     ensures words { stood result width words.new (words_read (take width row_keys) text.now) ≡ words_read (take width row_keys) text.now }
     ensures length { length words.new ≡ 224 }
 {
-    let answer = line_at(text, 0, b"rows=");
-    let Value::Is(rows, next) = answer else {
-        return Err(Refusal::Text(place(answer) as u64));
+    let mut reader = Reader { text, at: 0 };
+    let Ok(rows) = reader.value_of(b"rows=") else {
+        return Err(Refusal::Text(reader.at as u64));
     };
     if rows == 0 {
         return Err(Refusal::NoRows);
@@ -92,10 +84,10 @@ pub fn rows_of(text: &[u8], words: &mut [u32; 224], width: usize) -> Result<usiz
     if 32 < rows {
         return Err(Refusal::ManyRows);
     }
-    match rows_to_end(text, next, words, rows as usize, width) {
-        Rest::Next(_) => Ok(rows as usize),
-        Rest::Broken(j) => Err(Refusal::Text(j as u64)),
-    }
+    let Ok(()) = rows_to_end(&mut reader, words, rows as usize, width) else {
+        return Err(Refusal::Text(reader.at as u64));
+    };
+    Ok(rows as usize)
 }
 
 // A task text, read into a lent room. Read: its words stand in the first words of the room, seven to a row. Refused: the room is as it was.

@@ -36,7 +36,12 @@ fn put_text(words: &[u32], rows: usize, width: usize, out: &mut [u8]) -> usize
 
 // The text of rows of so many words, at the start of a lent room; refused: the room is as it was. The text is made apart from the
 // room, since its length is known only then.
-pub fn write_rows(words: &[u32], rows: usize, width: usize, room: &mut [u8]) -> Result<usize, Refusal>
+pub fn write_rows(
+    words: &[u32],
+    rows: usize,
+    width: usize,
+    room: &mut [u8],
+) -> Result<usize, Refusal>
     requires { (length words.now ≡ rows * width) × (rows ≤ 32) × (0 < width) × (width ≤ 7) × (length (text_of (take width row_keys) words.now) ≤ 1512) }
     ensures answer { answered result ≡ put_answer (text_of (take width row_keys) words.now) (length room.old) }
     ensures room { room.new ≡ put_room (text_of (take width row_keys) words.now) room.old }
