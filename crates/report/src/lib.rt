@@ -9,7 +9,7 @@ ghost use Rattle.refusal.specs.Shown.{answered};
 pub mod print;
 
 use line::put::put_bytes;
-use line::read::{Value, line_at, place};
+use line::read::line_at;
 use line::refused::put_refusal;
 use print::print_run;
 use refusal::Refusal;
@@ -22,14 +22,14 @@ fn print_all(input: &[u8], out: &mut [u8]) -> usize
     ensures place { result ≡ length (printed input.now) }
     ensures bytes { out.new ≡ put_at out.old 0 (printed input.now) }
 {
-    let answer = line_at(input, 0, b"ticks=");
-    let Value::Is(ticks, next) = answer else {
-        return put_refusal(out, Refusal::Text(place(answer) as u64), 0);
+    let line = match line_at(input, 0, b"ticks=") {
+        Ok(line) => line,
+        Err(fault) => return put_refusal(out, Refusal::Text(fault.place as u64), 0),
     };
     let mut words = [0u32; 224];
-    match read(&input[next..], &mut words) {
-        Ok(rows) => print_run(out, &words[..rows * WIDTH], ticks as u32),
-        Err(r) => put_refusal(out, r, next as u64),
+    match read(&input[line.next..], &mut words) {
+        Ok(rows) => print_run(out, &words[..rows * WIDTH], line.value as u32),
+        Err(r) => put_refusal(out, r, line.next as u64),
     }
 }
 
