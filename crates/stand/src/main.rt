@@ -6,7 +6,7 @@ ghost use Rattle.std.specs.Io.KnownBytes.{Appends};
 ghost use Rattle.law.specs.Report.{printed};
 
 use intake::{StandardInput, read_full};
-use report::{Printed, report};
+use report::report;
 use std::io;
 use std::io::{Read, Write};
 
@@ -16,10 +16,7 @@ fn put_printed(input: &[u8], room: &mut [u8; 5632]) -> usize
     ensures fits { result ≤ 5632 }
     ensures bytes { take result room.new ≡ printed input.now }
 {
-    match report(input, room) {
-        Printed::Length(n) => n,
-        Printed::Refused(_) => unreachable!(),
-    }
+    report(input, room).unwrap()
 }
 
 // Prints what is printed for all that the input has. No more than 1,848 bytes of an input are looked at (`printed_cut`,

@@ -8,21 +8,13 @@ use std::io::Write;
 
 // `1 m k job`: 1 for mandatory, 0 for optional.
 pub(crate) fn job<W: Write>(out: &mut W, case: &[u64]) -> io::Result<()> {
-    let answer = match book::ask(low_at(case, 1), low_at(case, 2), low_at(case, 3)) {
-        book::Job::Mandatory => Ok(1),
-        book::Job::Optional => Ok(0),
-        book::Job::Refused(r) => Err(r),
-    };
-    show::answered(out, answer)
+    let answer = book::ask(low_at(case, 1), low_at(case, 2), low_at(case, 3));
+    show::answered(out, answer.map(u64::from))
 }
 
 // `2 m k`: the pattern word.
 pub(crate) fn word<W: Write>(out: &mut W, case: &[u64]) -> io::Result<()> {
-    let answer = match book::word_of(low_at(case, 1), low_at(case, 2)) {
-        book::Word::Is(word) => Ok(word),
-        book::Word::Refused(r) => Err(r),
-    };
-    show::answered(out, answer)
+    show::answered(out, book::word_of(low_at(case, 1), low_at(case, 2)))
 }
 
 // `3 words`: the number of rows.

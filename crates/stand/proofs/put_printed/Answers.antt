@@ -4,12 +4,13 @@ use Rattle.law.proofs.Report.{printed_most}
 use Rattle.stand.proofs.Told.{has_room, put_length, put_whole}
 use Rattle.stand.proofs.put_printed.Goals as goal
 
-pub unreachable-requires : goal.unreachable-requires
-unreachable-requires c = has_room _ _ c.told-room _ c.in-Refused.ensures.answer
+pub unwrap-requires : goal.unwrap-requires
+unwrap-requires c = has_room _ _ c.told-room _ c.report.ensures.answer
 
 pub returns-clause-fits : goal.returns-clause-fits
 returns-clause-fits c =
-    omega (arith, put_length c.args.input.now _ c.told-room _ c.in-Length.ensures.answer, printed_most c.args.input.now)
+    omega (arith, put_length c.args.input.now _ c.told-room _ c.report.ensures.answer _ c.unwrap.ensures, printed_most c.args.input.now)
 
 pub returns-clause-bytes : goal.returns-clause-bytes
-returns-clause-bytes c = put_whole c.args.input.now _ c.told-room _ _ c.in-Length.ensures.answer c.report.ensures.room
+returns-clause-bytes c =
+    put_whole c.args.input.now _ c.told-room _ c.report.ensures.answer _ _ c.unwrap.ensures c.report.ensures.room
