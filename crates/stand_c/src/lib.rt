@@ -11,11 +11,8 @@ ghost use Rattle.law.specs.Carry.{to_new_answer, to_new_room, to_old_answer, to_
 ghost use Rattle.law.specs.Report.{report_answer, report_room};
 ghost use Rattle.law.specs.Replay.{replay_answer, replay_words};
 ghost use Rattle.law.specs.State.{fresh_answer, fresh_words, run_answer, run_words, saved_answer, counts_answer, counts_room, held_answer};
-ghost use Rattle.refusal.specs.Shown.{shown, answered, done};
-<<<<<<< HEAD
 ghost use Rattle.book.specs.Shown.{job_shown};
-=======
->>>>>>> ae9ca71 (stand_c: answers by From)
+ghost use Rattle.refusal.specs.Shown.{shown, answered, done};
 ghost use Rattle.replay.specs.Shown.{replayed_shown};
 ghost use Rattle.stand_c.specs.Numbered.{numbered, numbered_two};
 
