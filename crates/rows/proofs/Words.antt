@@ -1,14 +1,10 @@
 -- The words of a state in the code's hands: their number, a row read, a row put, and the same words again after each.
-use mathlib.Core.List.{List, [], ◌∷◌, ◌++◌}
-use mathlib.Core.Path.{◌≡◌, refl, sym, ap, ◌∙◌, subst}
-use Prim.Native.Nat.{ℕ, suc, ◌+◌, ◌*◌, ◌≤◌, ◌<◌}
-use native.Mathlib.Nat.{add-suc}
+use mathlib.Core.List.{List}
+use mathlib.Core.Path.{◌≡◌, sym, ap, ◌∙◌, subst}
+use Prim.Native.Nat.{ℕ, ◌+◌, ◌*◌, ◌≤◌, ◌<◌}
 use native.Mathlib.Omega.{arith}
-use lib.ListN.{length, get_or, set, take, drop}
-use lib.Seq.{set-get_or, sets, sets-eq}
-use borrow.Rule.Slice.PartMut.{put_mid}
-use Rattle.std.proofs.Common.{append_assoc}
-use Rattle.std.proofs.lemmas.List.{drop-drop}
+use lib.ListN.{length, get_or, set}
+use lib.Seq.{set-get_or}
 use Rattle.law.specs.Table.{row}
 use Rattle.law.specs.Tick.{Row, State, no_row}
 use Rattle.law.specs.State.{row_at, state_of, words_of, laid, sets_from, with_row, tasks_of}
@@ -67,17 +63,3 @@ says {words} s e = ap state_of e ∙ state_laid s
 pub laid_as : {words : List ℕ} (s : State) → words ≡ laid s → length s.rows ≤ 32 → Laid words
 laid_as {words} s e few =
     record { is = e ∙ ap laid (sym (says s e)); few = subst (λ (z : State). length z.rows ≤ 32) (sym (says s e)) few }
-
--- words stored one by one from a place on are what a copy of them there leaves
-one_by_one : (words : List ℕ) (b n : ℕ) (vs : List ℕ) → sets_from words b n vs ≡ sets words (b + n) vs
-unfolding sets_from
-one_by_one words b n [] = refl
-one_by_one words b n (v ∷ vs) =
-    one_by_one (set words (b + n) v) b (suc n) vs ∙ ap (λ (z : ℕ). sets (set words (b + n) v) z vs) (add-suc b n)
-
-pub sets_put : (words vs : List ℕ) (b n k : ℕ) → k ≡ length vs → b + n + length vs ≤ length words → put_mid (b + n) k words vs ≡ sets_from words b n vs
-sets_put words vs b n k e h =
-    ap (λ (z : ℕ). put_mid (b + n) z words vs) e
-    ∙ ap (λ (z : List ℕ). take (b + n) words ++ (vs ++ z)) (drop-drop (length vs) (b + n) words)
-    ∙ sym (append_assoc (take (b + n) words) vs (drop (b + n + length vs) words))
-    ∙ sym (sets-eq vs words (b + n) h) ∙ sym (one_by_one words b n vs)
