@@ -11,8 +11,7 @@ use Rattle.law.specs.Table.{Task, kind_of, word_of}
 use Rattle.law.specs.Tick.{Core, Row, work_after, advance, advance_row, release, release_row}
 use Rattle.law.specs.Sound.{Resting, Running, SoundCore}
 use Rattle.law.proofs.Question.{bits_tell}
-use Rattle.law.proofs.Sound.{outcome_none, outcome_met, outcome_missed, outcome_on, live_yes, live_no, due_no}
-use Rattle.rows.specs.Said.{closed_row}
+use Rattle.law.proofs.Sound.{outcome_none, outcome_on, live_yes, live_no, due_no}
 
 -- the bit at a place of a row's pattern word is the kind that the law gives
 pub kind_tells : (r : Task) (place w : ℕ) → place < r.k → w ≡ word_of r → eqb (w / 2 ^ place % 2) 1 ≡ kind_of r place
@@ -84,14 +83,6 @@ module _ (chosen : Bool) (r : Row) where
       same x y e = omega arith
 
   module _ (s : Running r.core) where
-    pub finishes : work_after chosen r.core ≡ 0 → closed_row 1 (waited r) ≡ advance_row chosen r
-    unfolding advance
-    finishes w = rw (outcome_met chosen r.core (live_yes r.core s.work) w)
-
-    pub misses : (work_after chosen r.core ≡ 0 → ⊥) → r.core.left ≡ 1 → closed_row 0 (waited r) ≡ advance_row chosen r
-    unfolding advance
-    misses w l = rw (outcome_missed chosen r.core (live_yes r.core s.work) w (omega arith))
-
     pub goes_on_lem : (work_after chosen r.core ≡ 0 → ⊥) → (r.core.left ≡ 1 → ⊥) → (work left : ℕ) → work ≡ work_after chosen r.core → left ≡ r.core.left - 1
         → ◌≡◌ {A = Row}
         (record {
