@@ -53,8 +53,8 @@ impl Pair {
     pub fn new(m: u32, k: u32) -> Result<Self, Refusal>
         ensures { pair_shown result ≡ pair_checked m k (accepted (m ∷ k ∷ [])) }
     {
-        let m = m as u64;
-        let k = k as u64;
+        let m = u64::from(m);
+        let k = u64::from(k);
         if !is_within(1, 64, k) {
             return Err(Refusal::K(0));
         }
@@ -79,7 +79,7 @@ impl Pair {
     fn is_mandatory(self, job: u32) -> bool
         ensures { result ≡ mandatory self.m self.k job }
     {
-        let remainder = job as u64 * self.m % self.k;
+        let remainder = u64::from(job) * self.m % self.k;
         let most = self.k - self.m;
         remainder == 0 || most < remainder
     }

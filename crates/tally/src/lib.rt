@@ -36,7 +36,7 @@ pub fn marks_in(window: u64, k: u64) -> u64
     requires { window < 2 ^ k }
     ensures { result ≡ marks k window }
 {
-    u64::count_ones(window) as u64
+    u64::from(window.count_ones())
 }
 
 // The number of met marks after one more mark: the mark that comes in is added, and the mark that is cut, bit k - 1, is taken off. In
@@ -50,8 +50,8 @@ fn amend(held: u64, window: u64, mark: u64, k: u64) -> u64
     held + mark - cut
 }
 
-// How many further misses in a row the task can bear. From the newest mark on, marks are taken in until m of them are met: the n marks not taken
-// in may go. 0 where all k don't hold m.
+// How many further misses in a row the task can bear. From the newest mark on, marks are taken in until m of them are met: the marks not taken in
+// may go. 0 where all k don't hold m.
 pub fn spare(window: u64, m: u64, k: u64) -> u64
     requires { k ≤ 64 }
     ensures { result ≡ spare_law m k window }
