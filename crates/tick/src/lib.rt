@@ -1,5 +1,5 @@
 // One tick over all rows of a state's words: release, choose, work and settle.
-#![tactic(auto)]
+#![tactic(auto, using(crate::proofs::Usual::usual))]
 
 ghost use Rattle.std.specs.Prelude.{◌≡◌, ◌+◌, ◌≤◌, ◌<◌, eqb, ltb, length, get_or, Some, IfSome};
 ghost use Rattle.std.specs.Option.{is_none, unwrap_or};
@@ -128,7 +128,7 @@ fn release_all(words: &mut [u64], patterns: &[u64])
 
 // Steps 3 and 4 for every row, with the row that was chosen, if any.
 fn advance_all(words: &mut [u64], chosen: Option<usize>)
-    requires { (Held 1 words.old) × (IfSome chosen (λ i. i < length (state_of words.old).rows)) }
+    requires { Held 1 words.old }
     ensures { words.new ≡ laid (advanced_state (unwrap_or chosen (length (state_of words.old).rows)) (state_of words.old)) }
 {
     for i in 0..rows_of(words) {

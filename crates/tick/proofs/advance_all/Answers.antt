@@ -14,7 +14,7 @@ use Rattle.tick.proofs.Loops.{mapped_start, mapped_laid, mapped_rows, mapped_row
 use Rattle.tick.proofs.advance_all.Goals as goal
 
 pub loop-i-init : goal.loop-i-init
-loop-i-init c = let p = c.requires.0 in (mapped_start _ _ _ p.laid refl, p.sound)
+loop-i-init c = let p = c.requires in (mapped_start _ _ _ p.laid refl, p.sound)
 
 pub advance_one-requires : goal.advance_one-requires
 advance_one-requires c =

@@ -1,14 +1,13 @@
 -- `tick::advance_one` meets its contract: a row without a live job waits on, one whose job keeps work and time goes on, and any other is settled.
 use mathlib.Core.Path.{◌≡◌, sym, ap, ◌∙◌, subst}
 use Prim.Native.Nat.{ℕ, ◌-◌, ◌≤◌}
-use native.Mathlib.Omega.{arith}
 use lib.ListN.{get_or, set}
 use Rattle.law.specs.Sums.{bit}
 use Rattle.law.specs.Tick.{Row, no_row, work_after}
 use Rattle.law.specs.State.{row_of, state_of, laid, with_row, words_of}
 use Rattle.law.proofs.Laid.{going}
 use Rattle.rows.proofs.Cases.{waited, is_resting, is_running, rests, goes_on_lem}
-use Rattle.rows.proofs.Words.{words_long, row_read, wait_put, going_put}
+use Rattle.rows.proofs.Words.{row_read, wait_put, going_put}
 use Rattle.tick.proofs.advance_one.Goals.{After-word-left, After-word-wait, After-word-work, Start}
 use Rattle.tick.proofs.advance_one.Goals as goal
 
@@ -29,17 +28,8 @@ left-read : (c : After-word-left) → c.word-left.result ≡ (held c.before.befo
 unfolding row_of
 left-read c = c.word-left.ensures ∙ ap (λ (z : Row). z.core.left) (row_read _ _ c.requires.1)
 
-pub word-wait-requires : goal.word-wait-requires
-word-wait-requires c = let p = c.requires in (words_long p.0, omega (arith, p.0.few), omega arith)
-
 pub overflow_sub-wait : goal.overflow_sub-wait
 overflow_sub-wait c = subst (λ (z : ℕ). 1 ≤ z) (sym (wait_read c)) c.requires.2.sound.core.wait_low
-
-pub word-work-requires : goal.word-work-requires
-word-work-requires c = let p = c.requires in (words_long p.0, omega (arith, p.0.few), omega arith)
-
-pub put_wait-requires : goal.put_wait-requires
-put_wait-requires c = let p = c.requires in (words_long p.0, omega (arith, p.0.few))
 
 pub returns-then-work-eq0 : goal.returns-then-work-eq0
 unfolding words_of
@@ -50,16 +40,10 @@ returns-then-work-eq0 c =
     ∙ ap (λ (z : Row). laid (with_row (state_of c.args.words.now) c.args.i z))
     (rests c.args.chosen r (is_resting c.requires.2.sound.core (sym (work-read (goal.at.returns-then-work-eq0 c).After-word-work) ∙ c.if-work-eq0.true)))
 
-pub word-left-requires : goal.word-left-requires
-word-left-requires c = let p = c.requires in (words_long p.0, omega (arith, p.0.few), omega arith)
-
 pub overflow_sub-left : goal.overflow_sub-left
 overflow_sub-left c =
     let q = is_running c.requires.2.sound.core (λ e. c.if-work-eq0.false (work-read (goal.at.overflow_sub-left c).After-word-work ∙ e)) in
     subst (λ (z : ℕ). 1 ≤ z) (sym (left-read (goal.at.overflow_sub-left c).After-word-left)) q.left_low
-
-pub put_going-requires : goal.put_going-requires
-put_going-requires c = let p = c.requires in (words_long p.0, omega (arith, p.0.few))
 
 pub returns : goal.returns
 returns c =

@@ -7,13 +7,13 @@ use native.Mathlib.Omega.{arith}
 use lib.Dec.{eqb, ltb}
 use lib.ListN.{length}
 use borrow.Author.Tests.{lt-ltb, le-ltb}
-use Rattle.std.proofs.Common.{Option, None, Some, IfSome}
+use Rattle.std.proofs.Common.{Option, None, Some}
 use Rattle.std.specs.Option.{is_none, unwrap_or}
 use Rattle.law.specs.Sums.{both, pick, first}
 use Rattle.law.specs.Tick.{Row, core_at, choose}
 use Rattle.law.specs.State.{row_of, state_of}
 use Rattle.law.proofs.First.{searched_hit, searched_next, searched_end}
-use Rattle.rows.proofs.Words.{words_long, row_read}
+use Rattle.rows.proofs.Words.{row_read}
 use Rattle.tick.proofs.choose.Invariants.{urgents, lives, Best, Choosing}
 use Rattle.tick.proofs.choose.Goals.{After-is_urgent}
 use Rattle.tick.proofs.choose.Goals as goal
@@ -30,10 +30,6 @@ best_next None x false s h e f =
 best_end : {p : ℕ → Bool} {n i : ℕ} (best : Option ℕ) → Best p n i best → n ≤ i → unwrap_or best n ≡ first p n
 best_end (Some r) s h = sym (s.found r refl).1
 best_end None s h = sym (searched_end (s.still refl) h)
-
-best_inside : {p : ℕ → Bool} {n i : ℕ} (best : Option ℕ) → Best p n i best → IfSome best (λ r. r < n)
-best_inside (Some r) s = (s.found r refl).0
-best_inside None s = tt
 
 module _ {words : List ℕ} {n i : ℕ} {best : Option ℕ} (s : Choosing words n i best) where
   -- an urgent row is the choice
@@ -59,16 +55,6 @@ module _ {words : List ℕ} {n i : ℕ} {best : Option ℕ} (s : Choosing words 
       let u : first (urgents words) (length (state_of words).rows) ≡ length (state_of words).rows = ap (first (urgents words)) (sym s.total) ∙ searched_end s.searched h ∙ s.total in
       best_end best s.best-live h ∙ ap (first (lives words)) s.total
       ∙ sym (rw (u, le-ltb (length (state_of words).rows) (length (state_of words).rows) (omega arith)))
-
-pub word-work-requires : goal.word-work-requires
-word-work-requires c =
-    let l = c.loop-i.invariant in
-    (words_long l.laid, omega (arith, l.laid.few, c.loop-i-test.true, c.rows_of-i-end.ensures), omega arith)
-
-pub word-requires : goal.word-requires
-word-requires c =
-    let l = c.loop-i.invariant in
-    (words_long l.laid, omega (arith, l.laid.few, c.loop-i-test.true, c.rows_of-i-end.ensures), omega arith)
 
 -- the two words that were read are the row's work and kind
 abbrev Turn : Type 0
@@ -106,6 +92,3 @@ loop-i-preserved c =
 
 pub returns-clause-row : goal.returns-clause-row
 returns-clause-row c = chosen_live c.loop-i.invariant (omega (arith, c.loop-i-test.false, c.rows_of-i-end.ensures))
-
-pub returns-clause-inside : goal.returns-clause-inside
-returns-clause-inside c = best_inside _ c.loop-i.invariant.best-live

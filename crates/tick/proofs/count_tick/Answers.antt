@@ -9,14 +9,8 @@ use Rattle.rows.proofs.Words.{words_long}
 use Rattle.tick.proofs.Chain.{byte_bit, time_word, idle_word, counted}
 use Rattle.tick.proofs.count_tick.Goals as goal
 
-pub bounds-words-1 : goal.bounds-words-1
-bounds-words-1 c = omega (arith, words_long c.requires.0)
-
 pub overflow_add-words : goal.overflow_add-words
 overflow_add-words c = omega (arith, time_word c.args.words.now)
-
-pub bounds-words-1-2 : goal.bounds-words-1-2
-bounds-words-1-2 c = omega (arith, words_long c.requires.0)
 
 pub bounds-words-2 : goal.bounds-words-2
 bounds-words-2 c = simp length-set (omega (arith, words_long c.requires.0))

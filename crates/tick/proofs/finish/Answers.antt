@@ -3,12 +3,6 @@ use native.Mathlib.Omega.{arith}
 use Rattle.tick.proofs.Chain.{advanced_laid, advanced_time, advanced_idle, none_chosen, finished}
 use Rattle.tick.proofs.finish.Goals as goal
 
-pub choose-chosen-requires : goal.choose-chosen-requires
-choose-chosen-requires c = c.requires.laid
-
-pub advance_all-requires : goal.advance_all-requires
-advance_all-requires c = (c.requires, c.choose-chosen.ensures.inside)
-
 pub count_tick-requires : goal.count_tick-requires
 count_tick-requires c =
     let h = c.requires in

@@ -1,13 +1,12 @@
 -- `tick::release_one` meets its contract: a row that waits stays as it is; else it is released with its C.
 use mathlib.Core.Path.{◌≡◌, sym, ap, ◌∙◌}
-use native.Mathlib.Omega.{arith}
 use Prim.Native.Nat.{ℕ}
 use lib.ListN.{get_or}
 use Rattle.law.specs.Table.{task_of}
 use Rattle.law.specs.Tick.{Row, no_row, release_row}
 use Rattle.law.specs.State.{row_of, state_of, laid, with_row}
 use Rattle.rows.proofs.Cases.{waits_on}
-use Rattle.rows.proofs.Words.{words_long, row_read, row_kept}
+use Rattle.rows.proofs.Words.{row_read, row_kept}
 use Rattle.tick.proofs.release_one.Goals.{After-word, After-word-work}
 use Rattle.tick.proofs.release_one.Goals as goal
 
@@ -21,19 +20,11 @@ work-read : (c : After-word-work) → c.word-work.result ≡ (get_or (state_of c
 unfolding row_of task_of
 work-read c = c.word-work.ensures ∙ ap (λ (z : Row). z.core.task.c) (row_read _ _ c.requires.1)
 
-pub word-requires : goal.word-requires
-word-requires c = let p = c.requires in (words_long p.0, omega (arith, p.0.few), omega arith)
-
 pub returns-then-word-ne0 : goal.returns-then-word-ne0
 returns-then-word-ne0 c =
     let w = c.args.words.now in
     let r = get_or (state_of w).rows c.args.i no_row in
     row_kept c.requires.0 c.args.i _ (sym (waits_on r.core.task.c r (λ e. c.if-word-ne0.true (wait_read (goal.at.returns-then-word-ne0 c).After-word ∙ e))))
-
-pub word-work-requires : goal.word-work-requires
-word-work-requires c =
-    let p = c.requires in
-    (words_long p.0, omega (arith, p.0.few), omega arith)
 
 pub release_row-requires : goal.release_row-requires
 release_row-requires c =

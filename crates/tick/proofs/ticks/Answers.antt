@@ -52,6 +52,3 @@ tick-requires c =
 
 pub loop-done-preserved : goal.loop-done-preserved
 loop-done-preserved c = ran-next c.loop-done.invariant _ c.loop-done-test.true c.tick.ensures
-
-pub returns : goal.returns
-returns c = ran-all c.loop-done.invariant c.loop-done-test.false

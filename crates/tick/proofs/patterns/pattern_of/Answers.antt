@@ -1,12 +1,11 @@
 -- `tick::patterns::pattern_of` meets its contract: each kind of pattern has its word.
 use mathlib.Core.Path.{◌≡◌, sym, ap, ◌∙◌, subst}
-use native.Mathlib.Omega.{arith}
 use Rattle.law.specs.Table.{Ranged, word_of}
 use Rattle.law.specs.Tick.{Row, core_at}
 use Rattle.law.specs.State.{state_of}
 use Rattle.law.proofs.Red.{word_red, word_even}
 use Rattle.table.specs.Said.{task_said}
-use Rattle.rows.proofs.Words.{words_long, row_read}
+use Rattle.rows.proofs.Words.{row_read}
 use Rattle.tick.proofs.patterns.pattern_of.Goals.{After-task_of-task}
 use Rattle.tick.proofs.patterns.pattern_of.Goals as goal
 
@@ -16,17 +15,6 @@ task-read c = c.task_of-task.ensures ∙ ap (λ (z : Row). z.core.task) (row_rea
 
 ranged : (c : After-task_of-task) → Ranged (task_said c.task_of-task.result)
 ranged c = subst Ranged (sym (task-read c)) (c.requires.0.sound.rows c.args.i c.requires.1).core.ranged
-
-pub task_of-task-requires : goal.task_of-task-requires
-task_of-task-requires c = (words_long c.requires.0.laid, omega (arith, c.requires.0.laid.few, c.requires.1))
-
-pub low_bits-requires : goal.low_bits-requires
-low_bits-requires c =
-    let r = (ranged (goal.at.low_bits-requires c).After-task_of-task).pair in
-    (r.m_low, omega (arith, r.m_high, r.k_high))
-
-pub invariant_of-pair : goal.invariant_of-pair
-invariant_of-pair c = record { in_range = (ranged (goal.at.invariant_of-pair c).After-task_of-task).pair }
 
 pub returns-then-task-eq1 : goal.returns-then-task-eq1
 returns-then-task-eq1 c =
