@@ -15,7 +15,7 @@ use Rattle.law.specs.Verdict.{demand, above}
 use Rattle.law.specs.Room.{room_at, room}
 use Rattle.law.proofs.Ceil.{ceil_low, ceil_high, ceil_only}
 use Rattle.law.proofs.Sums.{sum_cong}
-use Rattle.law.proofs.Verdict.{above_mono, above_small}
+use Rattle.law.proofs.Verdict.{above_mono}
 use Rattle.law.proofs.Room.{room_at_lem, room_least, room_most}
 use Rattle.verdict.specs.Stretch.{lowest, next_release, until_of}
 
@@ -139,30 +139,22 @@ pub walked_end : {tasks : List Task} {i t best d : ℕ} → Walked tasks i t bes
 walked_end {tasks} {i} {t} {best} s e h = le_antisymm s.no_more (room_least tasks i best (λ u l k. s.passed u l (omega arith) k))
 
 -- one stretch on, with the better of the best and what its end gives: ticks up to the best and what rows above bring are passed
-pub record Turned (tasks : List Task) (i t brought best : ℕ) : Type 0 where
-  pub walked : Walked tasks i (best + brought + 1) best
-  pub past : t ≤ best + brought
-  pub small : best + brought ≤ 65535 + 32 * (65535 * 65535)
-
-module _ {tasks : List Task} (w : WellFormed tasks) {i t best : ℕ} (h : i < length tasks) (s : Walked tasks i t best) {d : ℕ} (e : d ≡ (row tasks i).d) (l : t ≤ d) where
+module _ (tasks : List Task) (i t d best brought until next : ℕ) (w : WellFormed tasks) (h : i < length tasks) (s : Walked tasks i t best) (e : d ≡ (row tasks i).d) (l : t ≤ d) where
   better : until_of tasks i t - above tasks i t ≤ room tasks i
   better =
       omega (arith, end_room tasks w i h t (omega arith), room_at_lem tasks i (until_of tasks i t) (omega (arith, s.started, until_from tasks w i h t (omega arith))) (until_end tasks w i h t))
 
-  pub turned : {brought until left next : ℕ} → brought ≡ above tasks i t → until ≡ until_of tasks i t → left ≡ until - brought → next ≡ max best left → Turned tasks i t brought next
+  pub walked_on : brought ≡ above tasks i t → until ≡ until_of tasks i t → next ≡ max best (until - brought) → Walked tasks i (next + brought + 1) next
   unfolding room_at
-  turned {brought} {until} {left} {next} b u x y =
-      let r = w.ranged i h in
-      let no_more : next ≤ room tasks i = omega (arith, s.no_more, better) in
+  walked_on b u y =
       record {
-        walked = record {
-          started = omega arith;
-          no_more = no_more;
-          passed = λ v a k q. elim (dec_lt v t) [
-            | yes before ↦ omega (arith, s.passed v a before q)
-            | no after ↦ omega (arith, above_mono tasks w i h t v (omega arith))
-          ];
-        };
-        past = omega (arith, until_from tasks w i h t (omega arith));
-        small = omega (arith, no_more, room_most tasks i, r.d_high, r.t_high, above_small tasks w i (omega arith) t (omega (arith, r.d_high, r.t_high)), w.rows_high);
+        started = omega arith;
+        no_more = omega (arith, s.no_more, better);
+        passed = λ v a k q. elim (dec_lt v t) [
+          | yes before ↦ omega (arith, s.passed v a before q)
+          | no after ↦ omega (arith, above_mono tasks w i h t v (omega arith))
+        ];
       }
+
+pub room_small : (tasks : List Task) (i : ℕ) → WellFormed tasks → i < length tasks → room tasks i ≤ 65535
+room_small tasks i w h = let r = w.ranged i h in omega (arith, room_most tasks i, r.d_high, r.t_high)

@@ -2,15 +2,14 @@
 // load fits.
 #![tactic(auto)]
 
-ghost use Rattle.std.specs.Prelude.{[], ◌∷◌, ◌++◌, ◌≡◌, ◌≤◌, ◌<◌, length, take, drop, IfOk, IfErr};
-ghost use Rattle.law.specs.Refusal.{refused};
+ghost use Rattle.std.specs.Prelude.{◌++◌, ◌≡◌, ◌≤◌, ◌<◌, length, drop};
 ghost use Rattle.law.specs.Pattern.{count as count_law, red_count};
 ghost use Rattle.law.specs.Table.{table_of, count_of, Ranged};
-ghost use Rattle.law.specs.Verdict.{demand as demand_law, above, misfit, responses, verdict, verdict_room};
+ghost use Rattle.law.specs.Verdict.{demand as demand_law, above, verdict, verdict_room};
 ghost use Rattle.law.specs.Room.{room_at, room as room_law, rooms as rooms_law, rooms_answer, rooms_lent};
 ghost use Rattle.table.specs.Said.{task_said};
-ghost use Rattle.refusal.specs.Shown.{shown, answered};
-ghost use Rattle.verdict.specs.Said.{fit_of};
+ghost use Rattle.refusal.specs.Shown.{answered};
+ghost use Rattle.verdict.specs.Said.{fit_of, tried, responded};
 ghost use Rattle.verdict.specs.Stretch.{next_release, until_of};
 
 use refusal::Refusal;
@@ -97,6 +96,7 @@ fn room_at(table: Table, row: usize, t: u64) -> u64
 // The search for a row's room. Within a stretch t less the load is largest at the end, so the walk goes from stretch to stretch, and leaps over those in
 // which it is at most the best found: what rows above bring never falls, so that no tick up to the best and what they bring by now gives more than the
 // best. To begin with what is left at D makes the leaps long, unless rows above fill nearly every tick.
+#[tactic(auto, using(crate::proofs::Walk::walked_start, crate::proofs::Walk::walked_on, crate::proofs::Walk::until_from, crate::proofs::Walk::until_end, law::proofs::Room::room_most, law::proofs::Verdict::above_small))]
 fn search_room(table: Table, row: usize) -> u64
     requires { row < length (table_of table.words.now) }
     ensures { result ≡ room_law (table_of table.entry.words.now) row }
@@ -136,10 +136,7 @@ fn search(table: Table, row: usize) -> Option<u64>
 
 // The response times, row by row from the top, or the first row that doesn't fit.
 fn respond(table: Table) -> Result<[u32; 32], Refusal>
-    ensures late { IfErr result (λ refusal. misfit (table_of table.entry.words.now) < length (table_of table.entry.words.now)) }
-    ensures first { IfErr result (λ refusal. shown refusal ≡ refused 11 (misfit (table_of table.entry.words.now) ∷ [])) }
-    ensures all { IfOk result (λ times. misfit (table_of table.entry.words.now) ≡ length (table_of table.entry.words.now)) }
-    ensures times { IfOk result (λ times. take (length (table_of table.entry.words.now)) times ≡ responses (table_of table.entry.words.now)) }
+    ensures { responded (table_of table.entry.words.now) result ≡ tried (table_of table.entry.words.now) }
 {
     let rows = table.rows();
     let mut times = [0u32; 32];
@@ -169,6 +166,7 @@ pub fn judge(words: &[u32], room: &mut [u32]) -> Result<usize, Refusal>
 }
 
 // The room of every row, from the top, in the first words of a lent run.
+#[tactic(auto, using(crate::proofs::Laid::laid_next, crate::proofs::Walk::room_small))]
 fn measure(table: Table, run: &mut [u32])
     requires { length (table_of table.words.now) ≤ length run.old }
     ensures { run.new ≡ rooms_law (table_of table.entry.words.now) ++ drop (length (table_of table.entry.words.now)) run.old }

@@ -2,8 +2,9 @@
 use Rattle.std.proofs.Common.{arith, ap, sym, ◌∙◌, ◌≡◌, ◌∷◌, [], ◌++◌, length, take, drop, List, ℕ}
 use Rattle.law.specs.Refusal.{accepted}
 use Rattle.law.specs.Table.{table_of}
-use Rattle.law.proofs.Verdict.{verdict_unchecked, verdict_short, verdict_late, verdict_admitted}
+use Rattle.law.proofs.Verdict.{verdict_unchecked, verdict_short}
 use Rattle.refusal.proofs.Passed.{passed_on}
+use Rattle.verdict.proofs.Responses.{judged_late, judged_times}
 use Rattle.verdict.proofs.judge.Goals.{After-rows-rows}
 use Rattle.verdict.proofs.judge.Goals as goal
 
@@ -24,17 +25,17 @@ returns-then-room-rows c =
 pub returns-in_err-times : goal.returns-in_err-times
 returns-in_err-times c =
     let l = rows_is (goal.at.returns-in_err-times c).After-rows-rows in
-    let e = verdict_late c.args.words.now c.args.room.now _ c.in_ok-table.ensures.accepted (omega (arith, l, c.if-room-rows.false)) (rw c.in_ok-table.ensures.words at c.in_err-times.ensures.late) in
-    record { answer = passed_on _ _ c.from_residual-in_err-times.ensures.1 ∙ (rw c.in_ok-table.ensures.words at c.in_err-times.ensures.first) ∙ sym e.0; room = sym e.1 }
+    let told = rw c.in_ok-table.ensures.words at c.in_err-times.ensures in
+    let e = judged_late c.args.words.now c.args.room.now _ c.in_ok-table.ensures.accepted (omega (arith, l, c.if-room-rows.false)) told in
+    record { answer = passed_on _ _ c.from_residual-in_err-times.ensures.1 ∙ sym e.0; room = sym e.1 }
 
 pub returns : goal.returns
 returns c =
     let l = rows_is (goal.at.returns c).After-rows-rows in
-    let e = verdict_admitted c.args.words.now c.args.room.now _ c.in_ok-table.ensures.accepted (omega (arith, l, c.if-room-rows.false)) (rw c.in_ok-table.ensures.words at c.in_ok-times.ensures.all) in
+    let told = rw c.in_ok-table.ensures.words at c.in_ok-times.ensures in
+    let e = judged_times c.args.words.now c.args.room.now _ c.in_ok-table.ensures.accepted (omega (arith, l, c.if-room-rows.false)) told in
     record {
       answer = ap (λ (n : ℕ). accepted (n ∷ [])) l ∙ sym e.0;
       room = ap (λ (z : List ℕ). z ++ drop c.rows-rows.result c.args.room.now) c.copy_from_slice.ensures.after
-          ∙ ap (λ (n : ℕ). take n c.in_ok-times.times ++ drop n c.args.room.now) l
-          ∙ ap (λ (z : List ℕ). z ++ drop (length (table_of c.args.words.now)) c.args.room.now) (rw c.in_ok-table.ensures.words at c.in_ok-times.ensures.times)
-          ∙ sym e.1;
+          ∙ ap (λ (n : ℕ). take n c.in_ok-times.times ++ drop n c.args.room.now) l ∙ sym e.1;
     }
