@@ -38,7 +38,8 @@ fn red_count(task: Task, q: u64) -> u64
     requires { (Ranged (task_said task)) × (q ≤ 65535) }
     ensures { result ≡ red_count task.m task.k q }
 {
-    q / task.k * task.m + (q % task.k).min(task.m)
+    let part = (q % task.k).min(task.m);
+    q / task.k * task.m + part
 }
 
 // How many of a row's first q jobs are mandatory, by its own pattern.
