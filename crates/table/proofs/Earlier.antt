@@ -20,7 +20,8 @@ pub record IsNewUpTo (words : List ℕ) (i j : ℕ) : Type 0 where
   pub searched : Searched (has_id_of words i) i j
 
 -- the test at a row, by the words of both
-has_id_at : (words : List ℕ) (i j : ℕ) → i < length words / 7 → j < length words / 7 → has_id_of words i j ≡ eqb (task_at words j).id (task_at words i).id
+has_id_at : (words : List ℕ) (i j : ℕ) → i < length words / 7 → j < length words / 7
+    → has_id_of words i j ≡ eqb (task_at words j).id (task_at words i).id
 unfolding has_id_of
 has_id_at words i j h l = rw (table_row words j l, table_row words i h)
 
@@ -44,3 +45,5 @@ module _ (words : List ℕ) (i j : ℕ) (s : IsNewUpTo words i j) where
   pub new_to_end : i ≤ j → repeated (table_of words) i ≡ false
   unfolding repeated has_id_of
   new_to_end h = le-ltb _ i (omega (arith, searched_end s.searched h))
+
+pub ruleset earlier_ids = (new_at_first, new_to_next, repeated_at, new_to_end)

@@ -35,13 +35,13 @@ pub fn task_at(words: &[u32], row: usize) -> Task
         unreachable!()
     };
     Task {
-        id: id as u64,
-        c: c as u64,
-        t: t as u64,
-        d: d as u64,
-        m: m as u64,
-        k: k as u64,
-        p: p as u64,
+        id: u64::from(id),
+        c: u64::from(c),
+        t: u64::from(t),
+        d: u64::from(d),
+        m: u64::from(m),
+        k: u64::from(k),
+        p: u64::from(p),
     }
 }
 
@@ -80,7 +80,7 @@ pub fn row_fault(r: Task, twice: bool) -> Option<u64>
     None
 }
 
-// The refusal of a row, by its number.
+// The refusal of a row, by its number: a `match` over the numbers, the form that document 01 names.
 fn row_refusal(number: u64, row: u64) -> Refusal
     requires { RowNumber number }
     ensures { shown result ≡ refused number (row ∷ []) }
@@ -98,7 +98,7 @@ fn row_refusal(number: u64, row: u64) -> Refusal
 }
 
 // Whether a row's id stands in an earlier row.
-#[tactic(auto, using(crate::proofs::Earlier::new_at_first, crate::proofs::Earlier::new_to_next, crate::proofs::Earlier::repeated_at, crate::proofs::Earlier::new_to_end))]
+#[tactic(auto, using(crate::proofs::Earlier::earlier_ids))]
 fn is_repeated(words: &[u32], row: usize) -> bool
     requires { row < length words.now / 7 }
     ensures { result ≡ repeated (table_of words.now) row }

@@ -31,7 +31,8 @@ module _ (f : ℕ → ℕ) (n : ℕ) (start items : List ℕ) (i : ℕ) (s : IsL
   pub laid_all : length start ≤ i → i ≤ length start → items ≡ build f n
   laid_all h l =
       let e : i ≡ n = omega (arith, s.long) in
-      s.laid ∙ filled_is (build f i) start i (build_length f i) ∙ ap (λ (z : List ℕ). build f i ++ z) (drop_of_length-le start h) ∙ append-nil (build f i)
+      s.laid ∙ filled_is (build f i) start i (build_length f i)
+      ∙ ap (λ (z : List ℕ). build f i ++ z) (drop_of_length-le start h) ∙ append-nil (build f i)
       ∙ ap (build f) e
 
 pub laid_front : (f : ℕ → ℕ) (items rest : List ℕ) (n : ℕ) → items ≡ build f n → take n (items ++ rest) ≡ build f n

@@ -58,7 +58,8 @@ pub record IsFittingUpTo (tasks : List Task) (start times : List ℕ) (i : ℕ) 
   pub searched : Searched (is_misfit tasks) (length tasks) i
   pub laid : IsLaidUpTo (response tasks) (length tasks) start times i
 
-pub fitting_none : (tasks : List Task) (m : ℕ) (run : List ℕ) → m ≡ length tasks → length tasks ≤ length run → IsFittingUpTo tasks (take m run) (take m run) 0
+pub fitting_none : (tasks : List Task) (m : ℕ) (run : List ℕ) → m ≡ length tasks → length tasks ≤ length run
+    → IsFittingUpTo tasks (take m run) (take m run) 0
 fitting_none tasks m run e h = record { searched = searched_start _ _; laid = laid_none _ m _ run e h }
 
 module _ (tasks : List Task) (start times : List ℕ) (i : ℕ) (s : IsFittingUpTo tasks start times i) where
@@ -77,11 +78,13 @@ module _ (tasks : List Task) (start times : List ℕ) (i : ℕ) (s : IsFittingUp
   pub all_told : length start ≤ i → i ≤ length start → (rest : List ℕ) → accepted (take (length tasks) (times ++ rest)) ≡ tried tasks
   unfolding misfit is_misfit responses
   all_told h l rest =
-      ap accepted (laid_front _ _ rest _ (laid_all _ _ _ _ _ s.laid h l)) ∙ sym (tried_all tasks (searched_end s.searched (omega (arith, s.laid.long))))
+      ap accepted (laid_front _ _ rest _ (laid_all _ _ _ _ _ s.laid h l))
+      ∙ sym (tried_all tasks (searched_end s.searched (omega (arith, s.laid.long))))
 
 -- so the verdict is known, where the table is accepted and the room is long enough
 module _ (words room vs : List ℕ) (good : checked words ≡ accepted vs) (h : length (table_of words) ≤ length room) where
-  pub judged_late : {n : ℕ} {also : List ℕ} → refused n also ≡ tried (table_of words) → (verdict words (length room) ≡ refused n also) × (verdict_room words room ≡ room)
+  pub judged_late : {n : ℕ} {also : List ℕ} → refused n also ≡ tried (table_of words)
+      → (verdict words (length room) ≡ refused n also) × (verdict_room words room ≡ room)
   judged_late e =
       elim (dec_lt (misfit (table_of words)) (length (table_of words))) [
         | yes l ↦ let late = verdict_late words room vs good h l in (late.0 ∙ sym (tried_late (table_of words) l) ∙ sym e, late.1)
@@ -89,7 +92,8 @@ module _ (words room vs : List ℕ) (good : checked words ≡ accepted vs) (h : 
       ]
 
   pub judged_times : {times : List ℕ} → accepted times ≡ tried (table_of words)
-      → (verdict words (length room) ≡ accepted (length (table_of words) ∷ [])) × (verdict_room words room ≡ times ++ drop (length (table_of words)) room)
+      → (verdict words (length room) ≡ accepted (length (table_of words) ∷ []))
+      × (verdict_room words room ≡ times ++ drop (length (table_of words)) room)
   judged_times {times} e =
       elim (dec_lt (misfit (table_of words)) (length (table_of words))) [
         | yes l ↦ absurd (let z : ◌≡◌ {A = ℕ} 0 1 = cc (tried_late (table_of words) l) in omega arith)

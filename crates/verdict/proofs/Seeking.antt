@@ -9,7 +9,7 @@ use Rattle.std.specs.Prelude.{None, Some}
 use Rattle.law.specs.Table.{Task, row, WellFormed}
 use Rattle.law.specs.Verdict.{above, load}
 use Rattle.law.specs.Room.{room as room_law}
-use Rattle.law.proofs.Verdict.{Sought, sought_start, sought_fits, sought_leap, fits_yes}
+use Rattle.law.proofs.Verdict.{Sought, above_small, sought_start, sought_fits, sought_leap, fits_yes}
 use Rattle.law.proofs.Room.{fits_room, sought_within}
 use Rattle.verdict.specs.Said.{fit_of}
 
@@ -22,7 +22,8 @@ pub record IsSeeking (tasks : List Task) (i : ℕ) (own : Task) (room t : ℕ) :
   pub never : room < own.c → None ≡ fit_of tasks i
   pub within : own.c ≤ room → t ≤ own.d
 
-module _ (tasks : List Task) (i : ℕ) (own : Task) (room : ℕ) (w : WellFormed tasks) (h : i < length tasks) (e : own ≡ row tasks i) (f : room ≡ room_law tasks i) where
+module _ (tasks : List Task) (i : ℕ) (own : Task) (room : ℕ) (w : WellFormed tasks) (h : i < length tasks)
+    (e : own ≡ row tasks i) (f : room ≡ room_law tasks i) where
   same_c : own.c ≡ (row tasks i).c
   same_c = ap (λ (z : Task). z.c) e
 
@@ -61,3 +62,5 @@ module _ (tasks : List Task) (i : ℕ) (own : Task) (room : ℕ) (w : WellFormed
         let d = ap (λ (z : Task). z.d) e in
         let here = sought_fits tasks i t s.sought (omega (arith, s.within g, d)) (rw load_is at l) in
         rw (fits_yes tasks i (omega (arith, s.within g, d, here)), here)
+
+pub ruleset seeking = (seeking_start, leap, found, above_small)

@@ -15,7 +15,7 @@ use Rattle.law.specs.Verdict.{demand, above}
 use Rattle.law.specs.Room.{room_at, room}
 use Rattle.law.proofs.Ceil.{ceil_low, ceil_high, ceil_only}
 use Rattle.law.proofs.Sums.{sum_cong}
-use Rattle.law.proofs.Verdict.{above_mono}
+use Rattle.law.proofs.Verdict.{above_mono, above_small}
 use Rattle.law.proofs.Room.{room_at_lem, room_least, room_most}
 use Rattle.verdict.specs.Stretch.{lowest, next_release, until_of}
 
@@ -28,7 +28,7 @@ module _ (a b : ℕ) where
   smaller_else h = rw (lt-leb a b h)
 
   pub smaller_min : min a b ≡ smaller a b
-  smaller_min = elim (dec_lt b a) [ | yes h ↦ omega (arith, smaller_else h) | no h ↦ omega (arith, smaller_is (omega arith)) ]
+  smaller_min = elim (dec_lt b a) [ yes h ↦ omega (arith, smaller_else h) | no h ↦ omega (arith, smaller_is (omega arith)) ]
 
 -- the smallest of an end and n values: none of them is smaller, and what is no larger than any is no larger than it
 module _ (end : ℕ) (f : ℕ → ℕ) where
@@ -139,12 +139,15 @@ pub walked_end : {tasks : List Task} {i t best d : ℕ} → Walked tasks i t bes
 walked_end {tasks} {i} {t} {best} s e h = le_antisymm s.no_more (room_least tasks i best (λ u l k. s.passed u l (omega arith) k))
 
 -- one stretch on, with the better of the best and what its end gives: ticks up to the best and what rows above bring are passed
-module _ (tasks : List Task) (i t d best brought until next : ℕ) (w : WellFormed tasks) (h : i < length tasks) (s : Walked tasks i t best) (e : d ≡ (row tasks i).d) (l : t ≤ d) where
+module _ (tasks : List Task) (i t d best brought until next : ℕ) (w : WellFormed tasks) (h : i < length tasks) (s : Walked tasks i t best)
+    (e : d ≡ (row tasks i).d) (l : t ≤ d) where
   better : until_of tasks i t - above tasks i t ≤ room tasks i
   better =
-      omega (arith, end_room tasks w i h t (omega arith), room_at_lem tasks i (until_of tasks i t) (omega (arith, s.started, until_from tasks w i h t (omega arith))) (until_end tasks w i h t))
+      let late = until_from tasks w i h t (omega arith) in
+      omega (arith, end_room tasks w i h t (omega arith), room_at_lem tasks i (until_of tasks i t) (omega (arith, s.started)) (until_end tasks w i h t))
 
-  pub walked_on : brought ≡ above tasks i t → until ≡ until_of tasks i t → next ≡ max best (until - brought) → Walked tasks i (next + brought + 1) next
+  pub walked_on : brought ≡ above tasks i t → until ≡ until_of tasks i t → next ≡ max best (until - brought)
+      → Walked tasks i (next + brought + 1) next
   unfolding room_at
   walked_on b u y =
       record {
@@ -158,3 +161,5 @@ module _ (tasks : List Task) (i t d best brought until next : ℕ) (w : WellForm
 
 pub room_small : (tasks : List Task) (i : ℕ) → WellFormed tasks → i < length tasks → room tasks i ≤ 65535
 room_small tasks i w h = let r = w.ranged i h in omega (arith, room_most tasks i, r.d_high, r.t_high)
+
+pub ruleset walking = (walked_start, walked_on, until_from, until_end, room_most, above_small)

@@ -29,6 +29,7 @@ fn even_count(task: Task, q: u64) -> u64
     requires { (Ranged (task_said task)) × (q ≤ 65535) }
     ensures { result ≡ count_law task.m task.k q }
 {
+    // rounded up as the law writes it; std says its `div_ceil` by the remainder
     (q * task.m + (task.k - 1)) / task.k
 }
 
@@ -97,7 +98,7 @@ fn room_at(table: Table, row: usize, t: u64) -> u64
 // The search for a row's room. Within a stretch t less the load is largest at the end, so the walk goes from stretch to stretch, and leaps over those in
 // which it is at most the best found: what rows above bring never falls, so that no tick up to the best and what they bring by now gives more than the
 // best. To begin with what is left at D makes the leaps long, unless rows above fill nearly every tick.
-#[tactic(auto, using(crate::proofs::Walk::walked_start, crate::proofs::Walk::walked_on, crate::proofs::Walk::until_from, crate::proofs::Walk::until_end, law::proofs::Room::room_most, law::proofs::Verdict::above_small))]
+#[tactic(auto, using(crate::proofs::Walk::walking))]
 fn search_room(table: Table, row: usize) -> u64
     requires { row < length (table_of table.words.now) }
     ensures { result ≡ room_law (table_of table.entry.words.now) row }
@@ -105,6 +106,7 @@ fn search_room(table: Table, row: usize) -> u64
     let d = table.task(row).d;
     let mut best = room_at(table, row, d);
     let mut from = 1;
+    // no range to go over: the next stretch is known once this one is
     while from <= d {
         let s = stretch(table, row, from);
         best = best.max(s.until.saturating_sub(s.brought));
@@ -113,9 +115,9 @@ fn search_room(table: Table, row: usize) -> u64
     best
 }
 
-// The first tick that fits a row, or that none does, which is when its C is above its room: both are the loop's answers. Where the load at t is above t, no
-// tick up to that load fits: the search goes on there.
-#[tactic(auto, using(crate::proofs::Seeking::seeking_start, crate::proofs::Seeking::leap, crate::proofs::Seeking::found, law::proofs::Verdict::above_small))]
+// The first tick that fits a row, or that none does, which is when its C is above its room: both are the loop's answers, by `break`, the form that document 01
+// names. Where the load at t is above t, no tick up to that load fits: the search goes on there.
+#[tactic(auto, using(crate::proofs::Seeking::seeking))]
 fn search(table: Table, row: usize) -> Option<u64>
     requires { row < length (table_of table.words.now) }
     ensures { result ≡ fit_of (table_of table.entry.words.now) row }
