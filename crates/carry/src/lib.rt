@@ -33,11 +33,8 @@ fn relay(words: &[u32], rows: usize, from: usize, to: usize, out: &mut [u32])
     requires { (length words.now ≡ rows * from) × (rows * to ≤ length out.old) × (0 < from) × (0 < to) }
     ensures { take (rows * to) out.new ≡ relaid from to words.now }
 {
-    let n = rows * to;
-    let mut l = 0;
-    while l < n {
-        out[l] = word_in(words, l / to, from, l % to);
-        l += 1;
+    for (l, word) in out[..rows * to].iter_mut().enumerate() {
+        *word = word_in(words, l / to, from, l % to);
     }
 }
 
@@ -46,12 +43,10 @@ fn check_old(words: &[u32]) -> Result<usize, Refusal>
     ensures { answered result ≡ sayable (table_of words.now) }
 {
     let rows = words.len() / WIDTH;
-    let mut i = 0;
-    while i < rows {
+    for i in 0..rows {
         if task_at(words, i).p == 1 {
             return Err(Refusal::NotOld(i as u64));
         }
-        i += 1;
     }
     Ok(rows)
 }

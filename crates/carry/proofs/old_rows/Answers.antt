@@ -15,7 +15,6 @@ use Rattle.law.proofs.TextTrips.{Trip, read_write}
 use Rattle.law.proofs.Carry.{old_unread, old_read, old_table}
 use Rattle.refusal.specs.Shown.{answered}
 use Rattle.refusal.proofs.Passed.{passed_on}
-
 use Rattle.carry.proofs.Stood.{stood_not}
 use Rattle.carry.proofs.old_rows.Goals.{After-check_old, In_ok-rows}
 use Rattle.carry.proofs.old_rows.Goals as goal
