@@ -1,24 +1,45 @@
 -- What was written to the two streams is what is to stand there once an answer is told.
-use Rattle.std.proofs.Common.{◌≡◌, ℕ, ◌≤◌, List, [], ◌++◌, Option, None, Some, Result, Ok, Err, OnOk, length, take, inl, ap, sym, ◌∙◌, subst, arith}
+use Rattle.std.proofs.Common.{◌≡◌, ℕ, ◌+◌, ◌≤◌, Bool, true, false, eqb, List, [], ◌∷◌, Option, None, Some, Result, Ok, Err, OnOk, length, map, take, inl, ap, ap₂, refl, sym, ◌∙◌, subst, arith}
+use native.Mathlib.Nat.{zero-add}
 use Rattle.std.proofs.lemmas.List.{append-nil}
 use Rattle.std.specs.Io.KnownBytes.{Appends}
-use Rattle.law.specs.Refusal.{Answer, accepted, refused}
-use Rattle.law.specs.Carry.{out_of, error_of}
+use Rattle.law.specs.Sums.{pick}
+use Rattle.law.specs.Carry.{error_of}
+use Rattle.law.specs.Report.{refusal_printed, placed}
 use Rattle.law.proofs.Report.{refusal_most}
+use Rattle.refusal.specs.declared.Refusal.{Refusal}
+use Rattle.refusal.specs.Shown.{number_of, also_of, shown}
+use Rattle.line.specs.Put.{put_at}
+use Rattle.line.proofs.Pieces.{front_taken}
 use Rattle.outcome.specs.Tells.{Tells}
 
--- a refusal has room
-pub error_most : (a : Answer) → length (error_of a) ≤ 33
-error_most (accepted values) = omega arith
-error_most (refused n also) = refusal_most n also
+-- a place that counts from byte 0 stays as it is
+placed_zero : (n : ℕ) (also : List ℕ) → placed 0 n also ≡ also
+placed_zero n also = by (eqb n 12)
+  where
+    same : (xs : List ℕ) → map (λ j. 0 + j) xs ≡ xs
+    same [] = refl
+    same (x ∷ xs) = ap₂ (λ y ys. y ∷ ys) (zero-add x) (same xs)
+
+    by : (b : Bool) → pick b (map (λ j. 0 + j) also) also ≡ also
+    by true = same also
+    by false = refl
+
+-- what a refusal puts: it has room, and is what stands at the start
+module _ (r : Refusal) (n : ℕ) (is : n ≡ length (refusal_printed (number_of r) (placed 0 (number_of r) (also_of r)))) where
+  pub put_most : n ≤ 33
+  put_most = omega (arith, is, refusal_most (number_of r) (placed 0 (number_of r) (also_of r)))
+
+  pub put_taken : (old new : List ℕ) → new ≡ put_at old 0 (refusal_printed (number_of r) (placed 0 (number_of r) (also_of r))) → take n new ≡ error_of (shown r)
+  put_taken old new e = front_taken _ _ e is ∙ ap (refusal_printed (number_of r)) (placed_zero (number_of r) (also_of r))
 
 -- nothing that is put leaves a stream as it is
-stays : (o : Option (List ℕ)) (put : List ℕ) → put ≡ [] → Appends o o put
-stays None put e = tt
-stays (Some xs) put e = sym (ap (λ z. xs ++ z) e ∙ append-nil xs)
+stays : (o : Option (List ℕ)) → Appends o o []
+stays None = tt
+stays (Some xs) = sym (append-nil xs)
 
-module _ (a : Answer) (text put : List ℕ) (out error : Option (List ℕ)) (n : ℕ) (is : n ≡ out_of a) where
-  pub refusal_told : {E : Type 0} (r : Result (Unit {0}) E) (error' : Option (List ℕ)) → n ≡ 0 → put ≡ error_of a → OnOk r (Appends error error' put) → OnOk r (Tells a text out out error error')
-  refusal_told (Ok x) error' none e then =
-      inl (stays out (take (out_of a) text) (ap (λ m. take m text) (sym is ∙ none)), subst (Appends error error') e then)
-  refusal_told (Err x) error' none e then = tt
+-- a refusal is put whole on the one stream, and nothing on the other
+pub refusal_told : {E : Type 0} (r : Refusal) (text put : List ℕ) (out error error' : Option (List ℕ)) (w : Result (Unit {0}) E) → put ≡ error_of (shown r)
+    → OnOk w (Appends error error' put) → OnOk w (Tells (shown r) text out out error error')
+refusal_told r text put out error error' (Ok x) e then = inl (stays out, subst (Appends error error') e then)
+refusal_told r text put out error error' (Err x) e then = tt

@@ -1,2 +1,3 @@
+pub mod Converts
 pub mod Tellable
 pub mod Tells

@@ -1,68 +1,72 @@
-// What a converting program says: the text to standard output and nothing else, or a refusal to standard error.
+// What a converting program does: it reads, converts, and says the text on standard output and nothing else, or a refusal on standard error.
 #![tactic(auto)]
 
-ghost use Rattle.std.specs.Prelude.{◌≡◌, ◌≤◌, length, OnOk};
-ghost use Rattle.law.specs.Carry.{out_of, error_of};
-ghost use Rattle.line.specs.Put.{put_at};
-ghost use Rattle.text.specs.Written.{shown};
-ghost use Rattle.outcome.specs.Tellable.{Small, Tellable};
+ghost use Rattle.std.specs.Prelude.{take, OnOk, IfSome};
+ghost use Rattle.refusal.specs.Shown.{answered};
+ghost use Rattle.outcome.specs.Converts.{Converts, AlwaysTellable};
+ghost use Rattle.outcome.specs.Tellable.{Tellable};
 ghost use Rattle.outcome.specs.Tells.{Tells};
 
+use intake::read_full;
 use line::refused::put_refusal;
+use refusal::Refusal;
 use std::io;
-use std::io::Write;
-use text::write::Written;
-
-// So many bytes of the text go to standard output, so many of the refusal to standard error.
-#[derive(Clone, Copy)]
-pub(crate) struct Streams {
-    pub out: usize,
-    pub error: usize,
-}
-
-// What goes to the two streams; a refusal is put into `error`.
-fn said(answer: Written, error: &mut [u8]) -> Streams
-    requires { (33 ≤ length error.old) × (Small answer) }
-    ensures out { result.out ≡ out_of (shown answer) }
-    ensures error { result.error ≡ length (error_of (shown answer)) }
-    ensures bytes { error.new ≡ put_at error.old 0 (error_of (shown answer)) }
-{
-    match answer {
-        Written::Length(n) => Streams { out: n, error: 0 },
-        Written::Refused(r) => {
-            let n = put_refusal(error, r, 0);
-            Streams { out: 0, error: n }
-        }
-    }
-}
+use std::io::{Read, Write};
 
 // That nothing stands on standard error tells a program's caller that all went well. So a text that could not be written whole is told there
 // too. An error is that of a write to `error`, and then nothing is known of what stands there.
 pub fn tell<O: Write, E: Write>(
-    answer: Written,
+    answer: Result<usize, Refusal>,
     text: &[u8],
     out: &mut O,
     error: &mut E,
 ) -> io::Result<()>
     requires { Tellable answer text.now }
-    ensures { OnOk result (Tells (shown answer) text.now (O.contents out.old) (O.contents out.new)
+    ensures { OnOk result (Tells (answered answer) text.now (O.contents out.old) (O.contents out.new)
         (E.contents error.old) (E.contents error.new)) }
 {
-    let mut refusal = [0u8; 64];
-    let s = said(answer, &mut refusal);
-    if s.out == 0 {
-        return error.write_all(&refusal[..s.error]);
+    match answer {
+        Ok(n) if n > 0 => match out.write_all(&text[..n]) {
+            Ok(()) => Ok(()),
+            Err(_) => error.write_all(b"not written whole\n"),
+        },
+        Ok(_) => Ok(()),
+        Err(r) => {
+            let mut refusal = [0u8; 64];
+            let n = put_refusal(&mut refusal, r, 0);
+            error.write_all(&refusal[..n])
+        }
     }
-    match out.write_all(&text[..s.out]) {
-        Ok(()) => Ok(()),
-        Err(_) => error.write_all(b"not written whole\n"),
-    }
+}
+
+// Reads the first 2,048 bytes of an input, converts them into a lent room by one call, and tells what it answers.
+pub fn convert<R, O, E, F>(
+    input: &mut R,
+    room: &mut [u8],
+    out: &mut O,
+    error: &mut E,
+    call: F,
+) -> io::Result<()>
+where
+    R: Read,
+    O: Write,
+    E: Write,
+    F: FnOnce(&[u8], &mut [u8]) -> Result<usize, Refusal>,
+    requires callable { F.IsAlwaysCallable call }
+    requires tellable { AlwaysTellable F.FnOnce call room.old }
+    ensures { OnOk result (IfSome (R.remaining input.old) (λ bytes.
+        Converts F.FnOnce call (take 2048 bytes) room.old (O.contents out.old) (O.contents out.new)
+        (E.contents error.old) (E.contents error.new))) }
+{
+    let mut text = [0u8; 2048];
+    let n = read_full(input, &mut text)?;
+    let answer = call(&text[..n], room);
+    tell(answer, room, out, error)
 }
 
 #[cfg(test)]
 mod tests {
     use super::*;
-    use refusal::Refusal;
 
     // Takes so many bytes, and then no more.
     #[derive(Drop)]
@@ -87,7 +91,7 @@ mod tests {
     fn tells_a_text(rt: HostRuntime) -> io::Result<()> {
         let mut out = Vec::new(rt.alloc());
         let mut error = Vec::new(rt.alloc());
-        tell(Written::Length(3), b"abcd", &mut out, &mut error)?;
+        tell(Ok(3), b"abcd", &mut out, &mut error)?;
         assert_eq!(rt; out.as_slice(), b"abc".as_slice());
         assert_eq!(rt; error.as_slice(), b"".as_slice());
         Ok(())
@@ -97,12 +101,7 @@ mod tests {
     fn tells_a_refusal(rt: HostRuntime) -> io::Result<()> {
         let mut out = Vec::new(rt.alloc());
         let mut error = Vec::new(rt.alloc());
-        tell(
-            Written::Refused(Refusal::NotOld(2)),
-            b"abcd",
-            &mut out,
-            &mut error,
-        )?;
+        tell(Err(Refusal::NotOld(2)), b"abcd", &mut out, &mut error)?;
         assert_eq!(rt; out.as_slice(), b"".as_slice());
         assert_eq!(rt; error.as_slice(), b"refused=17\nat=2\n".as_slice());
         Ok(())
@@ -111,7 +110,7 @@ mod tests {
     #[test]
     fn tells_that_a_text_was_not_written_whole(rt: HostRuntime) -> io::Result<()> {
         let mut error = Vec::new(rt.alloc());
-        tell(Written::Length(3), b"abcd", &mut Full(2), &mut error)?;
+        tell(Ok(3), b"abcd", &mut Full(2), &mut error)?;
         assert_eq!(rt; error.as_slice(), b"not written whole\n".as_slice());
         Ok(())
     }
@@ -119,14 +118,6 @@ mod tests {
     #[test]
     fn fails_where_nothing_can_be_told(rt: HostRuntime) {
         let mut out = Full(9);
-        assert!(rt;
-            tell(
-                Written::Refused(Refusal::NoRows),
-                b"",
-                &mut out,
-                &mut Full(4)
-            )
-            .is_err()
-        );
+        assert!(rt; tell(Err(Refusal::NoRows), b"", &mut out, &mut Full(4)).is_err());
     }
 }
