@@ -4,13 +4,19 @@ use native.Mathlib.Nat.{zero-add}
 use Rattle.std.proofs.lemmas.List.{append-nil}
 use Rattle.std.specs.Io.KnownBytes.{Appends}
 use Rattle.law.specs.Sums.{pick}
+use Rattle.law.specs.Refusal.{Answer, head, after}
+use Rattle.law.specs.Reading.{put_answer}
 use Rattle.law.specs.Carry.{error_of}
 use Rattle.law.specs.Report.{refusal_printed, placed}
 use Rattle.law.proofs.Report.{refusal_most}
+use Rattle.law.proofs.TextAnswers.{put_says}
+use Rattle.law.proofs.TextSmall.{also_in}
+use Rattle.law.proofs.Verdict.{after_accepted}
 use Rattle.refusal.specs.declared.Refusal.{Refusal}
-use Rattle.refusal.specs.Shown.{number_of, also_of, shown}
+use Rattle.refusal.specs.Shown.{number_of, also_of, shown, answered}
 use Rattle.line.specs.Put.{put_at}
 use Rattle.line.proofs.Pieces.{front_taken}
+use Rattle.outcome.specs.Tellable.{Tellable}
 use Rattle.outcome.specs.Tells.{Tells}
 
 -- a place that counts from byte 0 stays as it is
@@ -43,3 +49,11 @@ pub refusal_told : {E : Type 0} (r : Refusal) (text put : List ℕ) (out error e
     → OnOk w (Appends error error' put) → OnOk w (Tells (shown r) text out out error error')
 refusal_told r text put out error error' (Ok x) e then = inl (stays out, subst (Appends error error') e then)
 refusal_told r text put out error error' (Err x) e then = tt
+
+-- what a conversion answers can be told: the text that it put lies within the room
+pub tellable : (a : Result ℕ Refusal) (first : Answer) (text left : List ℕ) (room : ℕ) → answered a ≡ after first (put_answer text room)
+    → length left ≡ room → also_in (after first (put_answer text room)) ≤ 1836 → Tellable a left
+tellable (Ok n) first text left room e long small =
+    let p = put_says text room (after_accepted first _ _ (sym e)).2 in
+    record { small = omega arith; fits = omega (arith, p.0, ap head p.1, long) }
+tellable (Err r) first text left room e long small = record { small = omega (arith, small, ap also_in e); fits = omega arith }

@@ -1,21 +1,13 @@
 -- What is told lies within the room, and a refusal's row or place is small.
-use Rattle.std.proofs.Common.{◌≡◌, ℕ, List, [], ◌∷◌, length, sym, ap, arith, rules}
-use Rattle.law.specs.Refusal.{head}
-use Rattle.law.specs.Carry.{to_new_answer}
-use Rattle.law.proofs.TextSmall.{also_in}
-use Rattle.law.proofs.Carry.{new_says}
+use Rattle.std.proofs.Common.{ap₂, length, ◌∙◌}
+use Rattle.law.specs.Carry.{to_new_answer, new_checked, new_text}
 use Rattle.law.proofs.CarrySizes.{new_also}
-use Rattle.text.specs.declared.write.Written.{Written}
-use Rattle.text.specs.declared.write.Written.TheVariants.{Length, Refused}
-use Rattle.text.specs.Written.{shown}
-use Rattle.outcome.specs.Tellable.{Tellable}
+use Rattle.outcome.proofs.Told.{tellable}
 use Rattle.to_new.proofs.main.Goals as goal
 
-tellable : (text out : List ℕ) (room : ℕ) → length out ≡ room → (a : Written) → shown a ≡ to_new_answer text room → Tellable a out
-tellable text out room long (Length m) e =
-    let s = new_says text room (m ∷ []) (sym e) in
-    record { small = omega arith; fits = omega (arith, s.fits, ap head s.wrote) }
-tellable text out room long (Refused r) e = record { small = omega (arith, new_also text room, ap also_in e); fits = omega arith }
-
-pub tell-requires : goal.tell-requires
-tell-requires c = tellable _ _ _ (search rules) _ c.to_new-answer.ensures.answer
+pub convert-requires-clause-tellable : goal.convert-requires-clause-tellable
+unfolding to_new_answer
+convert-requires-clause-tellable c =
+    λ text answer left long is.
+    tellable answer (new_checked text) (new_text text) left 1512
+    (is.met.0 ∙ ap₂ (λ t r. to_new_answer t (length r)) is.shows.0 is.shows.1) long (new_also text 1512)
