@@ -1,8 +1,6 @@
 -- What was written to the two streams is what is to stand there once an answer is told.
-use Rattle.std.proofs.Common.{◌≡◌, ℕ, ◌+◌, ◌≤◌, Bool, true, false, eqb, List, [], ◌∷◌, Option, None, Some, Result, Ok, Err, OnOk, length, map, take, inl, ap, ap₂, refl, sym, ◌∙◌, subst, arith}
+use Rattle.std.proofs.Common.{◌≡◌, ℕ, ◌+◌, ◌≤◌, Bool, true, false, eqb, List, [], ◌∷◌, Result, Ok, Err, length, map, take, ap, ap₂, refl, sym, ◌∙◌, arith}
 use native.Mathlib.Nat.{zero-add}
-use Rattle.std.proofs.lemmas.List.{append-nil}
-use Rattle.std.specs.Io.KnownBytes.{Appends}
 use Rattle.law.specs.Sums.{pick}
 use Rattle.law.specs.Refusal.{Answer, head, after}
 use Rattle.law.specs.Reading.{put_answer}
@@ -17,7 +15,6 @@ use Rattle.refusal.specs.Shown.{number_of, also_of, shown, answered}
 use Rattle.line.specs.Put.{put_at}
 use Rattle.line.proofs.Pieces.{front_taken}
 use Rattle.outcome.specs.Tellable.{Tellable}
-use Rattle.outcome.specs.Tells.{Tells}
 
 -- a place that counts from byte 0 stays as it is
 placed_zero : (n : ℕ) (also : List ℕ) → placed 0 n also ≡ also
@@ -38,17 +35,6 @@ module _ (r : Refusal) (n : ℕ) (is : n ≡ length (refusal_printed (number_of 
 
   pub put_taken : (old new : List ℕ) → new ≡ put_at old 0 (refusal_printed (number_of r) (placed 0 (number_of r) (also_of r))) → take n new ≡ error_of (shown r)
   put_taken old new e = front_taken _ _ e is ∙ ap (refusal_printed (number_of r)) (placed_zero (number_of r) (also_of r))
-
--- nothing that is put leaves a stream as it is
-stays : (o : Option (List ℕ)) → Appends o o []
-stays None = tt
-stays (Some xs) = sym (append-nil xs)
-
--- a refusal is put whole on the one stream, and nothing on the other
-pub refusal_told : {E : Type 0} (r : Refusal) (text put : List ℕ) (out error error' : Option (List ℕ)) (w : Result (Unit {0}) E) → put ≡ error_of (shown r)
-    → OnOk w (Appends error error' put) → OnOk w (Tells (shown r) text out out error error')
-refusal_told r text put out error error' (Ok x) e then = inl (stays out, subst (Appends error error') e then)
-refusal_told r text put out error error' (Err x) e then = tt
 
 -- what a conversion answers can be told: the text that it put lies within the room
 pub tellable : (a : Result ℕ Refusal) (first : Answer) (text left : List ℕ) (room : ℕ) → answered a ≡ after first (put_answer text room)

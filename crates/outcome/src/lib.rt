@@ -1,8 +1,11 @@
 // What a converting program does: it reads, converts, and says the text on standard output and nothing else, or a refusal on standard error.
 #![tactic(auto)]
 
-ghost use Rattle.std.specs.Prelude.{take, OnOk, IfSome};
-ghost use Rattle.refusal.specs.Shown.{answered};
+ghost use Rattle.std.specs.Prelude.{◌≤◌, take, OnOk, IfSome};
+ghost use Rattle.std.specs.Io.KnownBytes.{Appends};
+ghost use Rattle.law.specs.Refusal.{head};
+ghost use Rattle.law.specs.Carry.{error_of};
+ghost use Rattle.refusal.specs.Shown.{also_of, shown, answered};
 ghost use Rattle.outcome.specs.Converts.{Converts, AlwaysTellable};
 ghost use Rattle.outcome.specs.Tellable.{Tellable};
 ghost use Rattle.outcome.specs.Tells.{Tells};
@@ -12,6 +15,16 @@ use line::refused::put_refusal;
 use refusal::Refusal;
 use std::io;
 use std::io::{Read, Write};
+
+// A refusal in the house form.
+fn say<E: Write>(r: Refusal, error: &mut E) -> io::Result<()>
+    requires { head (also_of r) ≤ 4294967295 }
+    ensures { OnOk result (Appends (E.contents error.old) (E.contents error.new) (error_of (shown r))) }
+{
+    let mut refusal = [0u8; 64];
+    let n = put_refusal(&mut refusal, r, 0);
+    error.write_all(&refusal[..n])
+}
 
 // That nothing stands on standard error tells a program's caller that all went well. So a text that could not be written whole is told there
 // too. An error is that of a write to `error`, and then nothing is known of what stands there.
@@ -31,11 +44,7 @@ pub fn tell<O: Write, E: Write>(
             Err(_) => error.write_all(b"not written whole\n"),
         },
         Ok(_) => Ok(()),
-        Err(r) => {
-            let mut refusal = [0u8; 64];
-            let n = put_refusal(&mut refusal, r, 0);
-            error.write_all(&refusal[..n])
-        }
+        Err(r) => say(r, error),
     }
 }
 
