@@ -19,7 +19,8 @@ pub fn the_book() -> &'static [u64; 2080]
     &BOOK
 }
 
-// The word whose first n bits are set, and no other: a deeply-red pattern with n of any k, and a window of n met marks.
+// The word whose first n bits are set, and no other: a deeply-red pattern with n of any k, and a window of n met
+// marks.
 #[tactic(auto, using(law::proofs::Window::cut_is))]
 pub fn low_bits(n: u64) -> u64
     requires { (1 ≤ n) × (n ≤ 64) }
@@ -49,7 +50,7 @@ impl Pair {
     ghost use Rattle.book.specs.Pair.{pair_shown};
 
     // The pair that a caller offers, or why it is none. k is looked at first.
-    #[tactic(auto, using(law::proofs::Question::pair_k, law::proofs::Question::pair_m, law::proofs::Question::pair_good, law::proofs::Question::in_range))]
+    #[tactic(auto, using(crate::proofs::Pairs::tests))]
     pub fn new(m: u32, k: u32) -> Result<Self, Refusal>
         ensures { pair_shown result ≡ pair_checked m k (accepted (m ∷ k ∷ [])) }
     {
@@ -73,8 +74,9 @@ impl Pair {
         the_book()[place as usize]
     }
 
-    // Whether a job is mandatory, by one remainder and without the book: the tuner asks several hundred times a second. A remainder from 1 to k - m
-    // is that of an optional job. The product of a 32-bit number and one of at most 64 is taken in 64 bits: it can't wrap.
+    // Whether a job is mandatory, by one remainder and without the book: the tuner asks several hundred times a
+    // second. A remainder from 1 to k - m is that of an optional job. The product of a 32-bit number and one of at most
+    // 64 is taken in 64 bits: it can't wrap.
     #[tactic(auto, using(crate::proofs::Remainder::nothing_left, crate::proofs::Remainder::something_left))]
     fn is_mandatory(self, job: u32) -> bool
         ensures { result ≡ mandatory self.m self.k job }
@@ -86,7 +88,7 @@ impl Pair {
 }
 
 // The word of a pair that a caller offers.
-#[tactic(auto, unfolding(law::specs::Pattern::pair_word), using(crate::proofs::Pairs::refused_so, crate::proofs::Pairs::taken_so))]
+#[tactic(auto, unfolding(law::specs::Pattern::pair_word), using(crate::proofs::Pairs::tested))]
 pub fn word_of(m: u32, k: u32) -> Result<u64, Refusal>
     ensures { answered result ≡ pair_word m k }
 {
@@ -94,7 +96,7 @@ pub fn word_of(m: u32, k: u32) -> Result<u64, Refusal>
 }
 
 // Is job number `job` of a task with m out of k mandatory?
-#[tactic(auto, unfolding(law::specs::Pattern::question), using(crate::proofs::Pairs::refused_so, crate::proofs::Pairs::taken_so))]
+#[tactic(auto, unfolding(law::specs::Pattern::question), using(crate::proofs::Pairs::tested))]
 pub fn ask(m: u32, k: u32, job: u32) -> Result<bool, Refusal>
     ensures { job_shown result ≡ question m k job }
 {

@@ -11,12 +11,14 @@ use Rattle.law.specs.Table.{Task, kind_of, word_of}
 use Rattle.law.specs.Tick.{Core, Row, work_after, advance, advance_row, release, release_row}
 use Rattle.law.specs.Sound.{Resting, Running, SoundCore}
 use Rattle.law.proofs.Question.{bits_tell}
-use Rattle.law.proofs.Sound.{outcome_none, outcome_on, live_yes, live_no, due_no}
+use Rattle.law.proofs.Sound.{outcome_none, outcome_met, outcome_missed, outcome_on, live_yes, live_no, due_yes, due_no}
 
 -- the bit at a place of a row's pattern word is the kind that the law gives
 pub kind_tells : (r : Task) (place w : ℕ) → place < r.k → w ≡ word_of r → eqb (w / 2 ^ place % 2) 1 ≡ kind_of r place
 unfolding word_of
 kind_tells r place w l e = ap (λ (z : ℕ). eqb (z / 2 ^ place % 2) 1) e ∙ bits_tell (kind_of r) r.k place l
+
+pub ruleset releases = (due_yes, kind_tells)
 
 -- a row that waits is not changed by the releases
 pub waits_on : (work : ℕ) (r : Row) → (r.core.wait ≡ 0 → ⊥) → r ≡ release_row work r
@@ -60,6 +62,8 @@ is_running s h = ⊎_elim (λ r. absurd (h r.work)) (λ r. r) s.job
 
 pub is_resting : {c : Core} → SoundCore 1 c → c.work ≡ 0 → Resting c
 is_resting {c} s e = ⊎_elim (λ r. r) (λ (r : Running c). absurd (omega (arith, r.work))) s.job
+
+pub ruleset outcomes = (outcome_none, outcome_met, outcome_missed, outcome_on, live_yes, live_no, is_running, is_resting)
 
 module _ (chosen : Bool) (r : Row) where
   pub rests : Resting r.core → waited r ≡ advance_row chosen r

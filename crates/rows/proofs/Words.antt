@@ -63,3 +63,6 @@ says {words} s e = ap state_of e ∙ state_laid s
 pub laid_as : {words : List ℕ} (s : State) → words ≡ laid s → length s.rows ≤ 32 → Laid words
 laid_as {words} s e few =
     record { is = e ∙ ap laid (sym (says s e)); few = subst (λ (z : State). length z.rows ≤ 32) (sym (says s e)) few }
+
+-- what a row that is read, changed and put back rests on
+pub ruleset in_place = (words_long, row_read, row_put)

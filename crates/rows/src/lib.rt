@@ -18,8 +18,8 @@ pub const STRIDE: usize = 20;
 
 pub const STATE_WORDS: usize = 643;
 
-// The words of a row that a tick reads or stores by themselves: ticks until the next release, the live job's work left, ticks left to its
-// deadline, and its kind.
+// The words of a row that a tick reads or stores by themselves: ticks until the next release, the live job's work
+// left, ticks left to its deadline, and its kind.
 pub const WAIT: usize = 7;
 
 pub const WORK: usize = 9;
@@ -120,8 +120,8 @@ pub fn row_at(words: &[u64], i: usize) -> Row
     }
 }
 
-// Another row i among a state's words. One store a word: one copy of the twenty words (`copy_from_slice`) was timed, and a tick of 2 rows went
-// from 12 to 15 ns, one of 8 rows from 32 to 35.
+// Another row i among a state's words. One store a word: one copy of the twenty words (`copy_from_slice`) was timed,
+// and a tick of 2 rows went from 12 to 15 ns, one of 8 rows from 32 to 35.
 #[tactic(auto, unfolding(law::specs::State::words_of, law::specs::State::sets_from))]
 pub fn put_row(words: &mut [u64], i: usize, r: Row)
     requires { (length words.old ≡ 643) × (i < 32) }

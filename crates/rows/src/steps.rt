@@ -30,8 +30,9 @@ pub fn worked(work: u64, chosen: bool) -> u64
 }
 
 impl Row {
-    // Step 1: a row with wait 0 releases its next job, with the work given (C in a run), D ticks to its deadline and its kind from its own pattern.
-    #[tactic(auto, unfolding(law::specs::Tick::release), using(law::proofs::Sound::due_yes, crate::proofs::Cases::kind_tells))]
+    // Step 1: a row with wait 0 releases its next job, with the work given (C in a run), D ticks to its deadline and its
+    // kind from its own pattern.
+    #[tactic(auto, unfolding(law::specs::Tick::release), using(crate::proofs::Cases::releases))]
     pub fn release(&mut self, pattern: u64, work: u64)
         requires { (Timed 0 (row_said self.old)) × (self.old.wait ≡ 0) × (pattern ≡ word_of (task_said self.old.task)) }
         ensures { row_said self.new ≡ release_row work (row_said self.old) }
@@ -44,7 +45,8 @@ impl Row {
         self.tally.released += 1;
     }
 
-    // Step 4: the row's job is settled, met or missed. Its work, deadline and kind become 0, and its tally is lent to the settling routine.
+    // Step 4: the row's job is settled, met or missed. Its work, deadline and kind become 0, and its tally is lent to the
+    // settling routine.
     fn close(&mut self, met: bool)
         requires { (InRange self.old.task.m self.old.task.k) × (Countable self.old.task.k (tally_said self.old.tally)) }
         ensures { row_said self.new ≡ closed_row (bit met) (row_said self.old) }
@@ -59,9 +61,9 @@ impl Row {
         self.kind = 0;
     }
 
-    // Steps 3 and 4: the chosen row loses one unit of work, wait and the ticks left fall by one, and the job is settled where it has no work
-    // left, or where its deadline has come.
-    #[tactic(auto, unfolding(law::specs::Tick::advance), using(law::proofs::Sound::outcome_none, law::proofs::Sound::outcome_met, law::proofs::Sound::outcome_missed, law::proofs::Sound::outcome_on, law::proofs::Sound::live_yes, law::proofs::Sound::live_no, crate::proofs::Cases::is_running, crate::proofs::Cases::is_resting))]
+    // Steps 3 and 4: the chosen row loses one unit of work, wait and the ticks left fall by one, and the job is settled
+    // where it has no work left, or where its deadline has come.
+    #[tactic(auto, unfolding(law::specs::Tick::advance), using(crate::proofs::Cases::outcomes))]
     pub fn advance(&mut self, chosen: bool)
         requires { Timed 1 (row_said self.old) }
         ensures { row_said self.new ≡ advance_row chosen (row_said self.old) }

@@ -6,8 +6,8 @@ ghost use Rattle.law.specs.Tick.{shifted, marks, spare as spare_law};
 
 use book::Pair;
 
-// The window, newest mark in bit 0; the counts: released, mandatory met and missed, optional met and missed, broken windows; and the number of
-// met marks that the window holds.
+// The window, newest mark in bit 0; the counts: released, mandatory met and missed, optional met and missed, broken
+// windows; and the number of met marks that the window holds.
 #[derive(Clone, Copy, Debug, PartialEq, Eq)]
 pub struct Tally {
     pub window: u64,
@@ -39,8 +39,8 @@ pub fn marks_in(window: u64, k: u64) -> u64
     u64::from(window.count_ones())
 }
 
-// The number of met marks after one more mark: the mark that comes in is added, and the mark that is cut, bit k - 1, is taken off. In
-// this order the difference is never below 0.
+// The number of met marks after one more mark: the mark that comes in is added, and the mark that is cut, bit k - 1,
+// is taken off. In this order the difference is never below 0.
 #[tactic(auto, using(law::proofs::Window::marks_most, law::proofs::Window::marks_amended))]
 fn amend(held: u64, window: u64, mark: u64, k: u64) -> u64
     requires { (1 ≤ k) × (k ≤ 64) × (mark ≤ 1) × (held ≡ marks k window) }
@@ -50,8 +50,8 @@ fn amend(held: u64, window: u64, mark: u64, k: u64) -> u64
     held + mark - cut
 }
 
-// How many further misses in a row the task can bear. From the newest mark on, marks are taken in until m of them are met: the marks not taken in
-// may go. 0 where all k don't hold m.
+// How many further misses in a row the task can bear. From the newest mark on, marks are taken in until m of them are
+// met: the marks not taken in may go. 0 where all k don't hold m.
 pub fn spare(window: u64, m: u64, k: u64) -> u64
     requires { k ≤ 64 }
     ensures { result ≡ spare_law m k window }
@@ -71,8 +71,8 @@ impl Tally {
     ghost use Rattle.law.specs.Tick.{settled};
     ghost use Rattle.tally.specs.Said.{tally_said, Countable};
 
-    // The tally after a job of that kind is settled, met or missed: the window shifts, the number of its met marks is amended, one count goes
-    // up, and a window that then holds fewer than m met marks is counted as broken.
+    // The tally after a job of that kind is settled, met or missed: the window shifts, the number of its met marks is
+    // amended, one count goes up, and a window that then holds fewer than m met marks is counted as broken.
     #[tactic(auto, unfolding(law::specs::Tick::settled))]
     fn settled(self, kind: u64, met: bool, pair: Pair) -> Self
         requires { Countable pair.k (tally_said self) }

@@ -23,7 +23,7 @@ pub fn rows_of(words: &[u64]) -> usize
 }
 
 // Step 1 for row i whose wait is 0: its next job is released with the work given.
-#[tactic(auto, using(rows::proofs::Words::words_long, rows::proofs::Words::row_read, rows::proofs::Words::row_put))]
+#[tactic(auto, using(rows::proofs::Words::in_place))]
 pub fn release_row(words: &mut [u64], i: usize, pattern: u64, work: u64)
     requires { (Laid words.old) × (i < length (state_of words.old).rows) × (Timed 0 (get_or (state_of words.old).rows i no_row)) × ((core_at (state_of words.old).rows i).wait ≡ 0) × (pattern ≡ word_of (core_at (state_of words.old).rows i).task) }
     ensures { words.new ≡ laid (with_row (state_of words.old) i (release_row work (get_or (state_of words.old).rows i no_row))) }
@@ -46,7 +46,7 @@ fn release_one(words: &mut [u64], i: usize, pattern: u64)
 }
 
 // Steps 3 and 4 for row i, the whole row.
-#[tactic(auto, using(rows::proofs::Words::words_long, rows::proofs::Words::row_read, rows::proofs::Words::row_put))]
+#[tactic(auto, using(rows::proofs::Words::in_place))]
 fn settle_one(words: &mut [u64], i: usize, chosen: bool)
     requires { (Laid words.old) × (i < length (state_of words.old).rows) × (Timed 1 (get_or (state_of words.old).rows i no_row)) }
     ensures { words.new ≡ laid (with_row (state_of words.old) i (advance_row chosen (get_or (state_of words.old).rows i no_row))) }
