@@ -135,31 +135,37 @@ walked_start tasks i d best e low b =
       passed = λ u l k q. absurd (omega arith);
     }
 
-pub walked_end : {tasks : List Task} {i t best d : ℕ} → Walked tasks i t best → d ≡ (row tasks i).d → d < t → best ≡ room tasks i
-walked_end {tasks} {i} {t} {best} s e h = le_antisymm s.no_more (room_least tasks i best (λ u l k. s.passed u l (omega arith) k))
+module _ {tasks : List Task} {i t best : ℕ} (s : Walked tasks i t best) where
+  pub walked_end : (row tasks i).d < t → best ≡ room tasks i
+  walked_end h = le_antisymm s.no_more (room_least tasks i best (λ u l k. s.passed u l (omega arith) k))
 
--- one stretch on, with the better of the best and what its end gives: ticks up to the best and what rows above bring are passed
-module _ (tasks : List Task) (i t d best brought until next : ℕ) (w : WellFormed tasks) (h : i < length tasks) (s : Walked tasks i t best)
-    (e : d ≡ (row tasks i).d) (l : t ≤ d) where
-  better : until_of tasks i t - above tasks i t ≤ room tasks i
-  better =
-      let late = until_from tasks w i h t (omega arith) in
-      omega (arith, end_room tasks w i h t (omega arith), room_at_lem tasks i (until_of tasks i t) (omega (arith, s.started)) (until_end tasks w i h t))
+  -- one stretch on, with the better of the best and what its end gives: ticks up to the best and what rows above bring are passed
+  module _ (w : WellFormed tasks) (h : i < length tasks) (l : t ≤ (row tasks i).d) where
+    pub walked_better : until_of tasks i t - above tasks i t ≤ room tasks i
+    walked_better =
+        let late = until_from tasks w i h t l in
+        omega (arith, end_room tasks w i h t l, room_at_lem tasks i (until_of tasks i t) (omega (arith, s.started)) (until_end tasks w i h t))
 
-  pub walked_on : brought ≡ above tasks i t → until ≡ until_of tasks i t → next ≡ max best (until - brought)
-      → Walked tasks i (next + brought + 1) next
-  unfolding room_at
-  walked_on b u y =
-      record {
-        started = omega arith;
-        no_more = omega (arith, s.no_more, better);
-        passed = λ v a k q. elim (dec_lt v t) [
-          | yes before ↦ omega (arith, s.passed v a before q)
-          | no after ↦ omega (arith, above_mono tasks w i h t v (omega arith))
-        ];
-      }
+    pub walked_on : (next : ℕ) → best ≤ next → next ≤ room tasks i → (to : ℕ) → to ≡ next + above tasks i t + 1 → Walked tasks i to next
+    unfolding room_at
+    walked_on next b n to e =
+        record {
+          started = omega arith;
+          no_more = n;
+          passed = λ u a k q. elim (dec_lt u t) [
+            yes before ↦ omega (arith, s.passed u a before q)
+            | no after ↦ omega (arith, above_mono tasks w i h t u (omega arith))
+          ];
+        }
+
+-- the same by what the code computes of a stretch
+pub walked_turn : (tasks : List Task) (i t d best brought until next : ℕ) → WellFormed tasks → i < length tasks
+    → Walked tasks i t best → d ≡ (row tasks i).d → t ≤ d → brought ≡ above tasks i t → until ≡ until_of tasks i t → next ≡ max best (until - brought) → Walked tasks i (next + brought + 1) next
+walked_turn tasks i t d best brought until next w h s e l b u y =
+    let in_time : t ≤ (row tasks i).d = omega arith in
+    walked_on s w h in_time next (omega arith) (omega (arith, s.no_more, walked_better s w h in_time)) _ (omega arith)
 
 pub room_small : (tasks : List Task) (i : ℕ) → WellFormed tasks → i < length tasks → room tasks i ≤ 65535
 room_small tasks i w h = let r = w.ranged i h in omega (arith, room_most tasks i, r.d_high, r.t_high)
 
-pub ruleset walking = (walked_start, walked_on, until_from, until_end, room_most, above_small)
+pub ruleset walking = (walked_start, walked_turn, until_from, until_end, room_most, above_small)
