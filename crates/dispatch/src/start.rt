@@ -1,6 +1,6 @@
 // The fresh state of a table: nothing released, every window full of met marks.
 ghost use Rattle.std.specs.Prelude.{◌≡◌, length, replicate};
-ghost use Rattle.law.specs.Table.{Ranged, WellFormed, table_of};
+ghost use Rattle.law.specs.Table.{Ranged, table_of};
 ghost use Rattle.law.specs.Tick.{fresh_row, fresh as fresh_law};
 ghost use Rattle.law.specs.State.{laid, fresh_answer, fresh_words as fresh_words_law};
 ghost use Rattle.table.specs.Said.{task_said};
@@ -11,7 +11,7 @@ use crate::After;
 use book::low_bits;
 use refusal::Refusal;
 use rows::{Row, STATE_WORDS, State, put_row};
-use table::{Task, WIDTH, check, task_at};
+use table::{Table, Task};
 use tally::Tally;
 
 // A row before its first job: wait and place 0, nothing live, counts 0, a window of k met marks, so k of them held.
@@ -41,15 +41,15 @@ fn fresh_row(task: Task) -> Row
 }
 
 // The words of a table's fresh state: its number of rows, time 0, idle 0, and a fresh row for each task.
-fn lay_fresh(table: &[u32], words: &mut [u64])
-    requires { (WellFormed (table_of table.now)) × (length words.old ≡ 643) }
-    ensures { words.new ≡ laid (fresh_law (table_of table.now)) }
+fn lay_fresh(table: Table, words: &mut [u64])
+    requires { length words.old ≡ 643 }
+    ensures { words.new ≡ laid (fresh_law (table_of table.entry.words.now)) }
 {
-    let rows = table.len() / WIDTH;
+    let rows = table.rows();
     words.fill(0);
     words[0] = rows as u64;
     for i in 0..rows {
-        put_row(words, i, fresh_row(task_at(table, i)));
+        put_row(words, i, fresh_row(table.task(i)));
     }
 }
 
@@ -58,12 +58,12 @@ pub fn fresh_words(table: &[u32], room: &mut [u64]) -> Result<usize, Refusal>
     ensures answer { answered result ≡ fresh_answer table.now (length room.old) }
     ensures room { room.new ≡ fresh_words_law table.now room.old }
 {
-    let rows = check(table)?;
+    let table = Table::new(table)?;
     if room.len() < STATE_WORDS {
         return Err(Refusal::Room);
     }
     lay_fresh(table, &mut room[..STATE_WORDS]);
-    Ok(rows)
+    Ok(table.rows())
 }
 
 // The fresh state of a table by value; all zero where the table is refused.
