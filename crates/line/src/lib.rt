@@ -2,6 +2,6 @@
 #![tactic(auto)]
 
 mod key;
-pub mod put;
+pub mod page;
 pub mod read;
 pub mod refused;

@@ -1,11 +1,10 @@
 // A refusal as it is printed: its number, and the row or place where there is one.
-ghost use Rattle.std.specs.Prelude.{[], ◌∷◌, ◌≡◌, ◌+◌, ◌≤◌, length};
+ghost use Rattle.std.specs.Prelude.{[], ◌∷◌, ◌++◌, ◌≡◌, ◌+◌, ◌≤◌, length};
 ghost use Rattle.law.specs.Refusal.{head};
 ghost use Rattle.law.specs.Report.{refusal_printed, placed};
 ghost use Rattle.refusal.specs.Shown.{number_of, also_of};
-ghost use Rattle.line.specs.Put.{put_at};
 
-use crate::put::put_line;
+use crate::page::Page;
 use refusal::Refusal;
 
 // The row or place that is printed with a refusal of this number. A place in the task text counts from the first byte of the input: the text
@@ -19,15 +18,14 @@ fn printed_place(number: u64, place: u64, start: u64) -> u64
 }
 
 // A refusal: its number, then the row or place where there is one.
-pub fn put_refusal(out: &mut [u8], r: Refusal, start: u64) -> usize
-    requires { (33 ≤ length out.old) × (start + head (also_of r) ≤ 4294967295) }
-    ensures place { result ≡ length (refusal_printed (number_of r) (placed start (number_of r) (also_of r))) }
-    ensures bytes { out.new ≡ put_at out.old 0 (refusal_printed (number_of r) (placed start (number_of r) (also_of r))) }
+pub fn put_refusal<const N: usize>(page: &mut Page<N>, r: Refusal, start: u64)
+    requires { (length page.old + 33 ≤ N) × (start + head (also_of r) ≤ 4294967295) }
+    ensures { page.new ≡ page.old ++ refusal_printed (number_of r) (placed start (number_of r) (also_of r)) }
 {
     let number = r.number();
-    let at = put_line(out, 0, b"refused=", number);
-    if let Some(place) = r.place() {
-        return put_line(out, at, b"at=", printed_place(number, place, start));
-    }
-    at
+    page.put_line(b"refused=", number);
+    let Some(place) = r.place() else {
+        return;
+    };
+    page.put_line(b"at=", printed_place(number, place, start));
 }

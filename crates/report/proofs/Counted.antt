@@ -1,5 +1,5 @@
 -- The counts of a row of a well-formed state are numbers of 32 bits, and rows are printed one behind the other.
-use mathlib.Core.List.{List, [], ◌∷◌}
+use mathlib.Core.List.{List, [], ◌∷◌, ◌++◌, append_assoc, append-nil}
 use mathlib.Core.Path.{◌≡◌, refl, sym, ap, ◌∙◌}
 use Prim.Native.Nat.{ℕ, ◌+◌, ◌*◌, ◌≤◌}
 use native.Mathlib.Numerals.{add-one}
@@ -15,8 +15,6 @@ use Rattle.law.specs.Report.{row_printed, rows_printed}
 use Rattle.law.proofs.Report.{row_most}
 use Rattle.law.proofs.Spare.{spare_high}
 use Rattle.law.proofs.Tests.{both_true}
-use Rattle.line.specs.Put.{put_at}
-use Rattle.line.proofs.Pieces.{put_none, put_length, put_then}
 use Rattle.report.specs.Said.{Small}
 
 pub small_cons : (v : ℕ) (values : List ℕ) → v ≤ 4294967295 → Small values → Small (v ∷ values)
@@ -42,27 +40,21 @@ counts_small {time} {r} s early =
     (small_cons y.broken _ (omega (arith, t.broken))
     (small_cons _ [] (omega (arith, spare_high r.core.task.m r.core.task.k y.window)) small_none))))))
 
--- the first i rows stand at `at`, and the next goes behind them
-pub record Printing (tasks : List Task) (s : State) (old : List ℕ) (at : ℕ) (out : List ℕ) (next i : ℕ) : Type 0 where
-  pub place : next ≡ at + length (rows_printed tasks s i)
-  pub bytes : out ≡ put_at old at (rows_printed tasks s i)
-  pub few : next ≤ at + i * 169
+-- the first i rows stand behind what stood there
+pub record Printing (tasks : List Task) (s : State) (old page : List ℕ) (i : ℕ) : Type 0 where
+  pub bytes : page ≡ old ++ rows_printed tasks s i
+  pub few : length page ≤ length old + i * 169
 
-pub printing_start : (tasks : List Task) (s : State) (old : List ℕ) (at : ℕ) → Printing tasks s old at old at 0
+pub printing_start : (tasks : List Task) (s : State) (old : List ℕ) → Printing tasks s old old 0
 unfolding rows_printed
-printing_start tasks s old at = record { place = omega arith; bytes = sym (put_none old at); few = omega arith }
+printing_start tasks s old = record { bytes = sym (append-nil old); few = omega arith }
 
-module _ {tasks : List Task} {s : State} {old : List ℕ} {at : ℕ} {out : List ℕ} {next i : ℕ} (p : Printing tasks s old at out next i) (room : at + i * 169 ≤ length old) where
-  pub printing_long : length out ≡ length old
-  printing_long = ap length p.bytes ∙ put_length old at (rows_printed tasks s i) (omega (arith, p.place, p.few))
-
-  pub printing_next : {out' : List ℕ} {next' : ℕ}
-      → next' ≡ next + length (row_printed tasks s i) → out' ≡ put_at out next (row_printed tasks s i) → Printing tasks s old at out' next' (i + 1)
-  unfolding rows_printed
-  printing_next e f =
-      rw (add-one i)
-      record {
-        place = omega (arith, p.place, e, length-append (rows_printed tasks s i) (row_printed tasks s i));
-        bytes = f ∙ put_then old at (rows_printed tasks s i) (row_printed tasks s i) (omega (arith, p.place, p.few)) p.bytes p.place;
-        few = omega (arith, p.few, e, row_most tasks s i);
-      }
+pub printing_next : {tasks : List Task} {s : State} {old page : List ℕ} {i : ℕ} {new : List ℕ} → Printing tasks s old page i
+    → new ≡ page ++ row_printed tasks s i → Printing tasks s old new (i + 1)
+unfolding rows_printed
+printing_next {tasks} {s} {old} {page} {i} p e =
+    rw (add-one i)
+    record {
+      bytes = e ∙ ap (λ (z : List ℕ). z ++ row_printed tasks s i) p.bytes ∙ append_assoc old (rows_printed tasks s i) (row_printed tasks s i);
+      few = omega (arith, p.few, row_most tasks s i, simp length-append at (ap length e));
+    }

@@ -2,39 +2,26 @@
 ghost use Rattle.std.specs.Prelude.{◌≡◌, ◌+◌, ◌*◌, ◌%◌, ◌≤◌, ◌<◌, length, take};
 ghost use Rattle.law.specs.Text.{row_keys};
 ghost use Rattle.law.specs.Reading.{text_of, put_answer, put_room, write_answer, write_room};
-ghost use Rattle.line.specs.Put.{put_at};
 ghost use Rattle.refusal.specs.Shown.{answered};
 
-use line::put::{put_bytes, put_due, put_line};
+use line::page::Page;
 use refusal::Refusal;
 use table::{WIDTH, check};
 
-// The number within its row of the line after line j.
-fn next_line(j: usize, width: usize) -> usize
-    requires { j < width }
-    ensures { result ≡ (j + 1) % width }
+// The whole text of rows of so many words.
+fn text_page(words: &[u32], rows: usize, width: usize) -> Page<1512>
+    requires { (length words.now ≡ rows * width) × (rows ≤ 32) × (0 < width) × (width ≤ 7) × (length (text_of (take width row_keys) words.now) ≤ 1512) }
+    ensures { result ≡ text_of (take width row_keys) words.now }
 {
-    if j + 1 == width { 0 } else { j + 1 }
-}
-
-// The whole text of rows of so many words, from the start of a run that has room for it; answers its length.
-fn put_text(words: &[u32], rows: usize, width: usize, out: &mut [u8]) -> usize
-    requires { (length words.now ≡ rows * width) × (rows ≤ 32) × (0 < width) × (width ≤ 7) × (length (text_of (take width row_keys) words.now) ≤ length out.old) }
-    ensures place { result ≡ length (text_of (take width row_keys) words.now) }
-    ensures bytes { out.new ≡ put_at out.old 0 (text_of (take width row_keys) words.now) }
-{
-    let mut at = put_line(out, 0, b"rows=", rows as u64);
-    let mut j = 0;
-    let mut l = 0;
-    while l < words.len() {
-        at = put_due(out, at, j, words[l] as u64);
-        j = next_line(j, width);
-        l += 1;
+    let mut page = Page::new();
+    page.put_line(b"rows=", rows as u64);
+    for (l, word) in words.iter().enumerate() {
+        page.put_due(l % width, u64::from(*word));
     }
-    at
+    page
 }
 
-// The text of rows of so many words, at the start of a lent room; refused: the room is as it was. The text is made apart from the
+// The text of rows of so many words, at the start of a lent room: its length; refused: the room is as it was. The text is made apart from the
 // room, since its length is known only then.
 pub fn write_rows(
     words: &[u32],
@@ -46,13 +33,7 @@ pub fn write_rows(
     ensures answer { answered result ≡ put_answer (text_of (take width row_keys) words.now) (length room.old) }
     ensures room { room.new ≡ put_room (text_of (take width row_keys) words.now) room.old }
 {
-    let mut text = [0u8; 1512];
-    let n = put_text(words, rows, width, &mut text);
-    if room.len() < n {
-        return Err(Refusal::Room);
-    }
-    put_bytes(room, 0, &text[..n]);
-    Ok(n)
+    text_page(words, rows, width).write_into(room)
 }
 
 // The text of a table's words, at the start of a lent room: its length; refused: the room is as it was.

@@ -18,7 +18,6 @@ use Rattle.law.proofs.TextAnswers.{read_filled}
 use Rattle.law.proofs.TextTrips.{Trip, read_write}
 use Rattle.law.proofs.Report.{printed_unread, printed_refused, printed_run}
 use Rattle.law.proofs.TextSmall.{refused_small}
-use Rattle.line.specs.Put.{put_at}
 use Rattle.report.specs.Said.{Good}
 use Rattle.report.proofs.print_all.Goals as goal
 
@@ -48,14 +47,14 @@ module _ (input : List ℕ) (next : ℕ) {rows : ℕ} (e : accepted (rows ∷ []
 
 pub put_refusal-requires : goal.put_refusal-requires
 put_refusal-requires c = (
-  omega (arith, c.requires),
-  omega (arith, line_reach c.args.input.now 0 ticks_key, ap reached (sym c.in-Err.ensures.found)),
+  omega arith,
+  (omega (arith, ap length c.requires), omega (arith, line_reach c.args.input.now 0 ticks_key, ap reached (sym c.in-Err.ensures.found))),
 )
 
 pub returns-in-Err : goal.returns-in-Err
 returns-in-Err c =
     let e = ap (λ (z : ℕ). refusal_printed 12 (z ∷ [])) (zero-add c.in-Err.fault.place) ∙ sym (printed_unread c.args.input.now (sym c.in-Err.ensures.found)) in
-    record { place = c.put_refusal.ensures.place ∙ ap length e; bytes = c.put_refusal.ensures.bytes ∙ ap (put_at _ 0) e }
+    rw (c.put_refusal.ensures, c.requires) e
 
 pub overflow_mul-words : goal.overflow_mul-words
 overflow_mul-words c = omega (arith, few c.args.input.now c.in-Ok.line.next c.in-Ok-read.ensures.answer)
@@ -79,18 +78,25 @@ pub put_refusal-requires-in-Err-read : goal.put_refusal-requires-in-Err-read
 put_refusal-requires-in-Err-read c =
     let input = c.args.input.now in
     let next = c.in-Ok.line.next in (
-      omega (arith, c.requires),
-      omega
-          (arith, refused_small (drop next input) 224 _ _ (sym (rw behind at c.in-Err-read.ensures.answer)), line_reach input 0 ticks_key, ap reached (sym c.in-Ok.ensures.found)),
+      omega arith,
+      (
+        omega (arith, ap length c.requires),
+        omega (
+          arith,
+          refused_small (drop next input) 224 _ _ (sym (rw behind at c.in-Err-read.ensures.answer)),
+          line_reach input 0 ticks_key,
+          ap reached (sym c.in-Ok.ensures.found),
+        ),
+      ),
     )
 
 pub returns-in-Ok-read : goal.returns-in-Ok-read
 returns-in-Ok-read c =
     let e = ap (λ (z : List ℕ). run_printed (table_of z) c.in-Ok.line.value) (front c.args.input.now c.in-Ok.line.next c.in-Ok-read.ensures.answer c.read.ensures.room)
     ∙ sym (printed_run c.args.input.now (sym c.in-Ok.ensures.found) (good c.args.input.now c.in-Ok.line.next c.in-Ok-read.ensures.answer)) in
-    record { place = c.print_run.ensures.place ∙ ap length e; bytes = c.print_run.ensures.bytes ∙ ap (put_at _ 0) e }
+    c.print_run.ensures ∙ e
 
 pub returns-in-Err-read : goal.returns-in-Err-read
 returns-in-Err-read c =
     let e = sym (printed_refused c.args.input.now (sym c.in-Ok.ensures.found) (sym (rw behind at c.in-Err-read.ensures.answer))) in
-    record { place = c.put_refusal-in-Err-read.ensures.place ∙ ap length e; bytes = c.put_refusal-in-Err-read.ensures.bytes ∙ ap (put_at _ 0) e }
+    rw (c.put_refusal-in-Err-read.ensures, c.requires) e

@@ -1,115 +1,72 @@
--- `report::print::print_rows` meets its contract: each row behind the one before.
-use mathlib.Core.List.{List, ◌∷◌}
+-- Each row behind the one before.
+use mathlib.Core.List.{List, ◌∷◌, ◌++◌}
 use mathlib.Core.Path.{◌≡◌, sym, ap, ◌∙◌, subst}
-use Prim.Native.Nat.{ℕ, ◌+◌, ◌*◌, ◌≤◌, ◌<◌}
+use Prim.Native.Nat.{ℕ, ◌/◌, ◌<◌}
 use native.Mathlib.Omega.{arith}
 use lib.ListN.{length, get_or}
-use Rattle.law.specs.Table.{Task, table_of, row}
-use Rattle.law.specs.State.{state_of}
-use Rattle.law.specs.Room.{room as room_law}
-use Rattle.law.specs.Report.{printed_keys, number_lines, row_printed, response_printed}
+use mir.Syntax.{w32}
+use mir.Val.{Fits}
+use Rattle.law.specs.Table.{Task, table_of, row, task_at}
+use Rattle.law.specs.Tick.{no_row}
+use Rattle.law.specs.State.{state_of, tasks_of, counts_of}
+use Rattle.law.specs.Report.{printed_keys, number_lines, row_printed, rows_printed}
 use Rattle.law.proofs.Table.{table_length, table_row}
 use Rattle.law.proofs.Ticks.{tasks_length}
-use Rattle.dispatch.specs.Shown.{counts_said}
-use Rattle.line.specs.Put.{put_at}
-use Rattle.report.specs.Said.{Small}
+use Rattle.rows.specs.Said.{Held}
+use Rattle.report.specs.Said.{Small, Good, Responded, Roomed}
 use Rattle.report.proofs.Judged.{good_few, good_ranged}
-use Rattle.report.proofs.Counted.{Printing, printing_start, printing_long, printing_next, small_cons, counts_small}
-use Rattle.report.proofs.print.print_rows.Goals.{After-shared_slice_known-in-loop-i-2-1, At-loop-i, In-loop-i}
+use Rattle.report.proofs.Counted.{printing_start, printing_next, small_cons, counts_small}
 use Rattle.report.proofs.print.print_rows.Goals as goal
 
--- there is room for every row
-room : (l : At-loop-i) → l.args.at + l.loop-i.i * 169 ≤ length l.args.out.now
-room l = let p = l.requires in omega (arith, l.loop-i.invariant.0, good_few p.2, p.0, p.1)
+-- a row that is read: its id, its response time, its room and its counts
+module _ (words times rooms state : List ℕ) (i : ℕ) (h : i < length words / 7) where
+  inside : i < length (table_of words)
+  inside = omega (arith, table_length words)
 
--- a turn: its row, and what is printed of it
-abbrev Turn : Type 0
-Turn = In-loop-i
+  module _ {t : Task} (e : t ≡ task_at words i) {counts : List ℕ} (c : counts ≡ counts_of (get_or (state_of state).rows i no_row)) where
+    same : t ≡ row (table_of words) i
+    same = e ∙ sym (table_row words i h)
 
-inside : (c : Turn) → c.loop-i.i < length (table_of c.args.words.now)
-inside c = omega (arith, c.loop-i-test.true, table_length c.args.words.now)
+    printed : Responded (table_of words) times → Roomed (table_of words) rooms
+        → number_lines printed_keys (i ∷ t.id ∷ get_or times i 0 ∷ get_or rooms i 0 ∷ counts) ≡ row_printed (table_of words) (state_of state) i
+    unfolding row_printed
+    printed responded roomed = rw (same, responded.at i inside, roomed.at i inside, c)
 
--- what the turn has read: the row's id, its response time, its room and its counts
-abbrev Read : Type 0
-Read = After-shared_slice_known-in-loop-i-2-1
-
-abbrev values : Read → List ℕ
-values c =
-    c.loop-i.i
-    ∷ c.task_at.result.id
-    ∷ get_or c.args.times.now c.loop-i.i 0
-    ∷ get_or c.args.rooms.now c.loop-i.i 0
-    ∷ counts_said c.counts_of-c.result
-
-printed-is : (c : Read) → number_lines printed_keys (values c) ≡ row_printed (table_of c.args.words.now) (state_of c.args.state.now) c.loop-i.i
-unfolding row_printed
-printed-is c =
-    let i = c.loop-i.i in
-    let tasks : List Task = table_of c.args.words.now in
-    let counts : List ℕ = counts_said c.counts_of-c.result in
-    let id : c.task_at.result.id ≡ (row tasks i).id =
-    ap (λ (z : Task). z.id) (c.task_at.ensures ∙ sym (table_row c.args.words.now i c.loop-i-test.true)) in
-    ap (λ (z : ℕ). number_lines printed_keys (i ∷ z ∷ get_or c.args.times.now i 0 ∷ get_or c.args.rooms.now i 0 ∷ counts)) id
-    ∙ ap (λ (z : ℕ). number_lines printed_keys (i ∷ (row tasks i).id ∷ z ∷ get_or c.args.rooms.now i 0 ∷ counts)) (c.requires.3.at i (let said : c.loop-i.i < length (table_of c.args.words.now) = omega (arith, c.loop-i-test.true, table_length c.args.words.now) in said))
-    ∙ ap (λ (z : ℕ). number_lines printed_keys (i ∷ (row tasks i).id ∷ response_printed tasks i ∷ z ∷ counts)) (c.requires.4.at i (let said : c.loop-i.i < length (table_of c.args.words.now) = omega (arith, c.loop-i-test.true, table_length c.args.words.now) in said))
-    ∙ ap (λ (z : List ℕ). number_lines printed_keys (i ∷ (row tasks i).id ∷ response_printed tasks i ∷ room_law tasks i ∷ z)) c.counts_of-c.ensures
-
-small : (c : Read) → Small (values c)
-small c =
-    let i = c.loop-i.i in
-    let h = c.requires.5.sound in
-    let r = good_ranged c.requires.2 i (let said : c.loop-i.i < length (table_of c.args.words.now) = omega (arith, c.loop-i-test.true, table_length c.args.words.now) in said) in
-    let id : c.task_at.result.id ≡ (row (table_of c.args.words.now) i).id =
-    ap (λ (z : Task). z.id) (c.task_at.ensures ∙ sym (table_row c.args.words.now i c.loop-i-test.true)) in
-    let there : i < length (state_of c.args.state.now).rows =
-    omega (arith, (let said : c.loop-i.i < length (table_of c.args.words.now) = omega (arith, c.loop-i-test.true, table_length c.args.words.now) in said), ap length c.requires.6, tasks_length (state_of c.args.state.now).rows) in
-    small_cons i _ (omega (arith, (let said : c.loop-i.i < length (table_of c.args.words.now) = omega (arith, c.loop-i-test.true, table_length c.args.words.now) in said), good_few c.requires.2))
-    (small_cons c.task_at.result.id _ (omega (arith, id, r.id_high))
-    (small_cons (get_or c.args.times.now i 0) _ (omega (arith, c.shared_slice_known-in-loop-i-1.given i))
-    (small_cons (get_or c.args.rooms.now i 0) _ (omega (arith, c.shared_slice_known-in-loop-i-2-1.given i))
-    (subst Small (sym c.counts_of-c.ensures) (counts_small (h.rows i there) (omega (arith, h.time)))))))
+    small : Good words → Held 0 state → tasks_of (state_of state).rows ≡ table_of words → Fits w32 (get_or times i 0) → Fits w32 (get_or rooms i 0)
+        → Small (i ∷ t.id ∷ get_or times i 0 ∷ get_or rooms i 0 ∷ counts)
+    small good held tasks a b =
+        let there : i < length (state_of state).rows = omega (arith, inside, ap length tasks, tasks_length (state_of state).rows) in
+        small_cons i _ (omega (arith, inside, good_few good))
+        (small_cons t.id _ (omega (arith, ap (λ (z : Task). z.id) same, (good_ranged good i inside).id_high))
+        (small_cons (get_or times i 0) _ (omega (arith, a))
+        (small_cons (get_or rooms i 0) _ (omega (arith, b))
+        (subst Small (sym c) (counts_small (held.sound.rows i there) (omega (arith, held.sound.time)))))))
 
 pub loop-i-init : goal.loop-i-init
-loop-i-init c = (omega arith, printing_start _ _ _ _)
-
-pub counts_of-c-requires : goal.counts_of-c-requires
-counts_of-c-requires c = c.requires.5
-
-pub task_at-requires : goal.task_at-requires
-task_at-requires c = omega (arith, c.loop-i-test.true)
-
-pub offset_bounds-times-i : goal.offset_bounds-times-i
-offset_bounds-times-i c = omega (arith, inside (goal.at.offset_bounds-times-i c).In-loop-i, good_few c.requires.2)
+loop-i-init c = printing_start _ _ _
 
 pub bounds-times-i : goal.bounds-times-i
-bounds-times-i c =
-    omega (arith, inside (goal.at.bounds-times-i c).In-loop-i, c.requires.3.enough)
-
-pub offset_bounds-rooms-i : goal.offset_bounds-rooms-i
-offset_bounds-rooms-i c =
-    omega (arith, inside (goal.at.offset_bounds-rooms-i c).In-loop-i, good_few c.requires.2)
+bounds-times-i c = omega (arith, table_length c.args.words.now, c.requires.2.enough)
 
 pub bounds-rooms-i : goal.bounds-rooms-i
-bounds-rooms-i c = omega (arith, inside (goal.at.bounds-rooms-i c).In-loop-i, c.requires.4.enough)
+bounds-rooms-i c = omega (arith, table_length c.args.words.now, c.requires.3.enough)
 
-pub print_row-next-requires : goal.print_row-next-requires
-print_row-next-requires c =
-    let p = c.requires in
-    (omega (arith, c.loop-i.invariant.1.few, inside (goal.at.print_row-next-requires c).In-loop-i, good_few p.2, p.0, p.1, printing_long c.loop-i.invariant.1 (room (goal.at.print_row-next-requires c).At-loop-i)), small c)
-
-pub overflow_add-i : goal.overflow_add-i
-overflow_add-i c = omega (arith, inside (goal.at.overflow_add-i c).In-loop-i, good_few c.requires.2)
-
-pub loop-i-smaller : goal.loop-i-smaller
-loop-i-smaller c = omega (arith, c.loop-i-test.true)
+pub print_row-requires : goal.print_row-requires
+print_row-requires c =
+    let r = c.requires in (
+      omega (arith, c.loop-i.invariant.few, table_length c.args.words.now, good_few r.1, r.0),
+      small c.args.words.now c.args.times.now c.args.rooms.now c.args.state.now c.loop-i.i c.loop-i-test.true c.task_at.ensures c.counts_of-c.ensures r.1 r.4 r.5 (c.type_inv.times c.loop-i.i) (c.type_inv.rooms c.loop-i.i),
+    )
 
 pub loop-i-preserved : goal.loop-i-preserved
 loop-i-preserved c =
-    let e = printed-is (goal.at.loop-i-preserved c).After-shared_slice_known-in-loop-i-2-1 in
-    (omega (arith, inside (goal.at.loop-i-preserved c).In-loop-i), printing_next c.loop-i.invariant.1 (room (goal.at.loop-i-preserved c).At-loop-i) (c.print_row-next.ensures.place ∙ ap (λ (z : List ℕ). c.loop-i.next + length z) e) (c.print_row-next.ensures.bytes ∙ ap (put_at c.loop-i.out c.loop-i.next) e))
+    let r = c.requires in
+    printing_next c.loop-i.invariant
+    (c.print_row.ensures
+    ∙ ap (λ (z : List ℕ). c.loop-i.page ++ z) (printed c.args.words.now c.args.times.now c.args.rooms.now c.args.state.now c.loop-i.i c.loop-i-test.true c.task_at.ensures c.counts_of-c.ensures r.2 r.3))
 
 pub returns : goal.returns
 returns c =
-    let end : c.loop-i.i ≡ length (table_of c.args.words.now) = omega (arith, c.loop-i.invariant.0, c.loop-i-test.false, table_length c.args.words.now) in
-    let p = subst (Printing (table_of c.args.words.now) (state_of c.args.state.now) c.args.out.now c.args.at c.loop-i.out c.loop-i.next) end c.loop-i.invariant.1 in
-    record { place = p.place; bytes = p.bytes }
+    let e : c.loop-i.i ≡ length (table_of c.args.words.now) = omega (arith, table_length c.args.words.now) in
+    c.loop-i.invariant.bytes
+    ∙ ap (λ (z : ℕ). c.args.page.now ++ rows_printed (table_of c.args.words.now) (state_of c.args.state.now) z) e
