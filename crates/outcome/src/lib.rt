@@ -125,6 +125,27 @@ mod tests {
     }
 
     #[test]
+    fn tells_what_a_call_answers(rt: HostRuntime) -> io::Result<()> {
+        let mut input: &[u8] = b"abc";
+        let mut out = Vec::new(rt.alloc());
+        let mut error = Vec::new(rt.alloc());
+        convert(
+            &mut input,
+            &mut [0; 2],
+            &mut out,
+            &mut error,
+            |text, room| {
+                let n = text.len().min(room.len());
+                room[..n].copy_from_slice(&text[..n]);
+                Ok(n)
+            },
+        )?;
+        assert_eq!(rt; out.as_slice(), b"ab".as_slice());
+        assert_eq!(rt; error.as_slice(), b"".as_slice());
+        Ok(())
+    }
+
+    #[test]
     fn fails_where_nothing_can_be_told(rt: HostRuntime) {
         let mut out = Full(9);
         assert!(rt; tell(Err(Refusal::NoRows), b"", &mut out, &mut Full(4)).is_err());

@@ -75,7 +75,10 @@ pub(crate) fn counts<W: Write>(out: &mut W, case: &[u64]) -> io::Result<()> {
     over_damaged(out, case, numbers_from(case, 7), |out, state| {
         let mut room = [BEFORE as u64; 16];
         let length = part_of(case, 6, &room);
-        show::done(out, counts_words(state, low_at(case, 5), &mut room[..length]))?;
+        show::done(
+            out,
+            counts_words(state, low_at(case, 5), &mut room[..length]),
+        )?;
         show::words(out, &room[..length])
     })
 }

@@ -2,7 +2,7 @@
 use Rattle.std.proofs.Common.{rules}
 use Rattle.intake.proofs.Filled.{read_more, read_none}
 use Rattle.intake.proofs.read_full.Goals as goal
-use Rattle.intake.proofs.read_full.Goals.{in-Ok, in-Err+else-ne}
+use Rattle.intake.proofs.read_full.Goals.{in-Ok, in-Err}
 
 pub loop-preserved : goal.loop-preserved
 loop-preserved g c =
@@ -11,7 +11,7 @@ loop-preserved g c =
         within = search rules;
         read = read_more _ _ _ c.loop.filled _ w.in-Ok.n _ _ _ c.loop.invariant.within (search rules) w.filled-is c.loop.invariant.read w.in-Ok.ensures.bytes.0;
       }
-      | in-Err+else-ne w ↦ record {
+      | in-Err w ↦ record {
         within = search rules;
         read = read_none _ _ _ c.loop.filled _ _ _ _ c.loop.invariant.within w.filled-is c.loop.invariant.read w.in-Err.ensures.bytes;
       }
