@@ -50,9 +50,6 @@ abbrev pub is_some : List ℕ → Bool
 is_some [] = false
 is_some (v ∷ vs) = true
 
-abbrev pub has_also : Refusal → Bool
-has_also r = is_some (also_of r)
-
 -- the row or place as the code has it
 abbrev pub listed : Option ℕ → List ℕ
 listed None = []

@@ -3,7 +3,7 @@
 
 ghost use Rattle.std.specs.Prelude.{◌≡◌};
 ghost use Rattle.law.specs.Refusal.{code_of, value_of, within};
-ghost use Rattle.refusal.specs.Shown.{shown, number_of, also_of, listed, has_also};
+ghost use Rattle.refusal.specs.Shown.{shown, number_of, also_of, listed};
 
 // A refusal and, where a row or a place is also returned, the row or the place that goes with it.
 #[derive(Clone, Copy, Debug, PartialEq, Eq, Hash)]
@@ -84,23 +84,4 @@ pub fn is_within(low: u64, high: u64, x: u64) -> bool
     ensures { result ≡ within low high x }
 {
     (low..=high).contains(&x)
-}
-
-// The same as functions.
-pub fn number(r: Refusal) -> u64
-    ensures { result ≡ code_of (shown r) }
-{
-    r.number()
-}
-
-pub fn also(r: Refusal) -> u64
-    ensures { result ≡ value_of (shown r) }
-{
-    r.place_or_zero()
-}
-
-pub fn has_also(r: Refusal) -> bool
-    ensures { result ≡ has_also r }
-{
-    r.place().is_some()
 }
