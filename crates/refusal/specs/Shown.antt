@@ -1,6 +1,6 @@
 -- How the enum `Refusal` is read: its number in documents 01 and 02, and the row or place that is also returned. And how the answers are read that are a
 -- `Result` whose error it is.
-use Rattle.std.specs.Prelude.{Bool, true, false, List, [], ◌∷◌, ℕ, Option, None, Some, Result, Ok, Err}
+use Rattle.std.specs.Prelude.{List, [], ◌∷◌, ℕ, Option, None, Some, Result, Ok, Err}
 use Rattle.law.specs.Refusal.{Answer, accepted, refused}
 use Rattle.refusal.specs.declared.Refusal.{Refusal}
 use Rattle.refusal.specs.declared.Refusal.TheVariants.{NotWholeRows, NoRows, ManyRows, Id, T, D, C, K, M, Repeated, Unschedulable, Text, Room, State, Clock, P, NotOld, Log}
@@ -44,11 +44,6 @@ also_of Clock = []
 also_of (P row) = row ∷ []
 also_of (NotOld row) = row ∷ []
 also_of (Log place) = place ∷ []
-
--- whether there is one
-abbrev pub is_some : List ℕ → Bool
-is_some [] = false
-is_some (v ∷ vs) = true
 
 -- the row or place as the code has it
 abbrev pub listed : Option ℕ → List ℕ
