@@ -1,5 +1,5 @@
 // A replay: the same dispatcher, with the lengths of a log in place of C.
-#![tactic(auto)]
+#![tactic(auto, using(crate::proofs::Usual::usual))]
 
 ghost use Rattle.std.specs.Prelude.{◌≡◌, ◌+◌, ◌≤◌};
 ghost use Rattle.law.specs.Tick.{clock_end};

@@ -24,9 +24,6 @@ has c = sym c.enough.ensures ∙ c.if-not-enough.false
 pub loop-done-init : goal.loop-done-init
 loop-done-init c = let p = c.requires in walk_start _ _ _ _ p.0 p.1 p.2
 
-pub overflow_sub-log : goal.overflow_sub-log
-overflow_sub-log c = c.loop-done.invariant.fits
-
 pub enough-requires : goal.enough-requires
 enough-requires c = (walk_held c.loop-done.invariant).laid
 

@@ -3,7 +3,6 @@ use mathlib.Core.List.{List, []}
 use mathlib.Core.Path.{◌≡◌, sym, ap, ◌∙◌, subst}
 use Prim.Native.Nat.{ℕ, ◌+◌, ◌≤◌}
 use native.Mathlib.Omega.{arith}
-use lib.ListN.{length}
 use Rattle.law.specs.Refusal.{accepted}
 use Rattle.law.specs.Tick.{clock_end}
 use Rattle.law.specs.State.{state_of, laid, run_answer}
@@ -54,11 +53,6 @@ replay_ticks-requires c =
       subst (λ (z : List ℕ). (state_of z).time + c.args.n ≤ clock_end) o (omega (arith, time_word w, run_early w c.args.n [] (allowed (goal.at.replay_ticks-requires c).In_ok-may_run))),
       subst (λ (z : List ℕ). Fetched (state_of z).rows c.fetch-patterns.result) o c.fetch-patterns.ensures.0,
     )
-
-pub copy_from_slice-requires-2 : goal.copy_from_slice-requires-2
-copy_from_slice-requires-2 c =
-    let l = words_long (held (goal.at.copy_from_slice-requires-2 c).In_ok-may_run).laid in
-    l ∙ sym (c.replay_ticks.auto.words ∙ ap length c.copy_from_slice.ensures.after ∙ l)
 
 pub returns-in_err-progress : goal.returns-in_err-progress
 returns-in_err-progress c =

@@ -12,16 +12,10 @@ use Rattle.dispatch.proofs.well.is_repeated.Invariants.{id_of, same}
 use Rattle.dispatch.proofs.well.is_repeated.Goals.{After-word}
 use Rattle.dispatch.proofs.well.is_repeated.Goals as goal
 
-pub word-id-requires : goal.word-id-requires
-word-id-requires c = let p = c.requires in (p.0.long, omega (arith, p.0.few), omega arith)
-
 pub loop-j-init : goal.loop-j-init
 unfolding id_of row_of task_of
 loop-j-init c =
     (searched_start _ _, c.requires.0, c.requires.1, c.word-id.ensures ∙ ap (λ (z : Task). z.id) (task_read c.requires.0 c.args.i c.requires.1))
-
-pub word-requires : goal.word-requires
-word-requires c = let l = c.loop-j.invariant in (l.1.long, omega (arith, l.1.few, l.2), omega arith)
 
 abbrev Turn : Type 0
 Turn = After-word

@@ -1,6 +1,6 @@
 -- `dispatch::well::rows_well` meets its contract: the rows passed are well, so what is left to test are those from i on.
 use mathlib.Core.List.{List}
-use mathlib.Core.Path.{◌≡◌, refl, sym, ap, ◌∙◌, subst}
+use mathlib.Core.Path.{◌≡◌, sym, ap, ◌∙◌, subst}
 use Prim.Native.Nat.{ℕ, ◌<◌}
 use native.Mathlib.Omega.{arith}
 use lib.ListN.{length, get_or}
@@ -23,14 +23,6 @@ pair_of {words} {rows} t j h =
     let n = tasks_length (state_of words).rows in
     let g = (fault_none (row tasks j) _ (row_clean tasks (t.clean ∙ t.sized.total ∙ sym n) j (omega (arith, t.sized.total)))).0.pair in
     rw (task_read t.sized j h) g
-
-pub loop-i-init : goal.loop-i-init
-loop-i-init c =
-    let p = c.requires in
-    record { sized = p.0; clean = p.1; early = p.2; reached = omega arith; rest = refl }
-
-pub row_at-requires : goal.row_at-requires
-row_at-requires c = let l = c.loop-i.invariant in (l.sized.long, omega (arith, l.sized.few, c.loop-i-test.true))
 
 pub row_well-requires : goal.row_well-requires
 row_well-requires c =

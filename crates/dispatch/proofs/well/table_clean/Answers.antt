@@ -10,7 +10,7 @@ use Rattle.std.specs.Prelude.{is_some, unwrap_or}
 use Rattle.law.specs.Sums.{first}
 use Rattle.law.specs.Table.{Task, row, fault_of, row_fault, faulty}
 use Rattle.law.specs.State.{state_of, tasks_of}
-use Rattle.law.proofs.First.{searched_start, searched_hit, searched_next, searched_end}
+use Rattle.law.proofs.First.{searched_hit, searched_next, searched_end}
 use Rattle.law.proofs.Ticks.{tasks_length}
 use Rattle.table.proofs.Faults.{told_where}
 use Rattle.rows.specs.Said.{Sized}
@@ -23,15 +23,6 @@ use Rattle.dispatch.proofs.well.table_clean.Goals as goal
 faulty-is : {words : List ℕ} {rows : ℕ} → Sized words rows → (i : ℕ) → first (fault words) rows ≡ i → faulty (tasks_of (state_of words).rows) ≡ i
 unfolding faulty fault
 faulty-is {words} s i e = ap (first (fault words)) (tasks_length (state_of words).rows ∙ sym s.total) ∙ e
-
-pub loop-i-init : goal.loop-i-init
-loop-i-init c = (searched_start _ _, c.requires)
-
-pub task_of-requires : goal.task_of-requires
-task_of-requires c = let l = c.loop-i.invariant in (l.1.long, omega (arith, l.1.few))
-
-pub is_repeated-requires : goal.is_repeated-requires
-is_repeated-requires c = (c.loop-i.invariant.1, c.loop-i-test.true)
 
 abbrev Read : Type 0
 Read = After-row_fault

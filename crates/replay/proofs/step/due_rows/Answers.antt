@@ -13,7 +13,6 @@ use Rattle.law.specs.Tick.{core_at, due as is_due}
 use Rattle.law.specs.Replay.{releases}
 use Rattle.law.specs.State.{state_of}
 use Rattle.law.proofs.Replay.{releases_none, releases_next, releases_most}
-use Rattle.rows.proofs.Words.{words_long}
 use Rattle.replay.proofs.Read.{wait_read}
 use Rattle.replay.proofs.step.due_rows.Invariants.{Counted}
 use Rattle.replay.proofs.step.due_rows.Goals as goal
@@ -36,9 +35,6 @@ loop-i-init c =
     let p = c.requires in
     record { laid = p; total = refl; reached = omega arith; is = sym (releases_none _) }
 
-pub word-requires : goal.word-requires
-word-requires c = let l = c.loop-i.invariant in (words_long l.laid, omega (arith, l.laid.few, c.loop-i-test.true, c.rows_of-i-end.ensures), omega arith)
-
 pub overflow_add-due : goal.overflow_add-due
 overflow_add-due c =
     let l = c.loop-i in
@@ -51,6 +47,3 @@ loop-i-preserved c =
     let h : l.i < length (state_of w).rows = omega (arith, c.loop-i-test.true, c.rows_of-i-end.ensures) in
     let wait = wait_read w l.i h _ c.word.ensures in
     counted_next l.invariant h _ (c.from-due.ensures ∙ byte_bit (eqb c.word.result 0) ∙ ap (λ (z : ℕ). bit (eqb z 0)) wait)
-
-pub returns : goal.returns
-returns c = counted-all c.loop-i.invariant (omega (arith, c.loop-i-test.false, c.rows_of-i-end.ensures))

@@ -1,8 +1,6 @@
 -- `replay::step::enough` meets its contract: no more rows release than there are.
-use mathlib.Core.Path.{sym, ap}
-use Prim.Native.Nat.{ℕ}
+use mathlib.Core.Path.{sym}
 use native.Mathlib.Omega.{arith}
-use lib.Dec.{leb}
 use lib.ListN.{length}
 use borrow.Author.Tests.{le-leb}
 use Rattle.law.specs.State.{state_of}
@@ -14,6 +12,3 @@ pub returns-then-rows_of-left : goal.returns-then-rows_of-left
 returns-then-rows_of-left c =
     let rows = (state_of c.args.words.now).rows in
     sym (le-leb (releases rows (length rows)) c.args.left (omega (arith, releases_most rows (length rows), c.if-rows_of-left.true, c.rows_of.ensures)))
-
-pub returns : goal.returns
-returns c = ap (λ (z : ℕ). leb z c.args.left) c.due_rows.ensures

@@ -9,7 +9,7 @@ use Rattle.law.specs.Refusal.{within, accepted}
 use Rattle.law.specs.Tick.{no_row, core_at}
 use Rattle.law.specs.State.{state_of}
 use Rattle.rows.proofs.Cases.{waits_on}
-use Rattle.rows.proofs.Words.{words_long, row_kept}
+use Rattle.rows.proofs.Words.{row_kept}
 use Rattle.replay.proofs.Read.{wait_read, c_read, fits_waiting, unfit_due, due_bit, waiting_bit}
 use Rattle.replay.proofs.step.release_next.Goals.{After-is_within, After-word, Else-word-ne0}
 use Rattle.replay.proofs.step.release_next.Goals as goal
@@ -27,9 +27,6 @@ ranged c =
     c.is_within.ensures
     ∙ ap (λ (z : ℕ). within 1 z (get_or c.args.log.now c.args.next 0)) (c_read _ _ c.requires.1 _ c.word-2.ensures)
 
-pub word-requires : goal.word-requires
-word-requires c = let p = c.requires in (words_long p.0, omega (arith, p.0.few), omega arith)
-
 pub returns-then-word-ne0 : goal.returns-then-word-ne0
 returns-then-word-ne0 c =
     let log = c.args.log.now in
@@ -39,22 +36,11 @@ returns-then-word-ne0 c =
       words = rw (fits_waiting log c.args.next r.core waits) (row_kept c.requires.0 c.args.i _ (sym (waits_on (get_or log c.args.next 0) r waits)));
     }
 
-pub bounds-log-next : goal.bounds-log-next
-bounds-log-next c =
-    omega (arith, c.requires.4, due_bit (core_at (state_of c.args.words.now).rows c.args.i) (due (goal.at.bounds-log-next c).Else-word-ne0))
-
-pub word-requires-2 : goal.word-requires-2
-word-requires-2 c = let p = c.requires in (words_long p.0, omega (arith, p.0.few), omega arith)
-
 pub returns-then-not-is_within : goal.returns-then-not-is_within
 returns-then-not-is_within c =
     let core = core_at (state_of c.args.words.now).rows c.args.i in
     let bad = unfit_due c.args.log.now c.args.next core (due (goal.at.returns-then-not-is_within c).Else-word-ne0) false (sym (ranged (goal.at.returns-then-not-is_within c).After-is_within) ∙ c.if-not-is_within.true) in
     record { next = rw bad; words = rw bad }
-
-pub release_row-requires : goal.release_row-requires
-release_row-requires c =
-    (c.requires.0, c.requires.1, c.requires.2, due (goal.at.release_row-requires c).Else-word-ne0, c.requires.3)
 
 pub returns : goal.returns
 returns c =
