@@ -47,6 +47,7 @@ fn release_one(words: &mut [u64], i: usize, pattern: u64)
 
 // Steps 3 and 4 for row i, the whole row.
 #[tactic(auto, using(rows::proofs::Words::in_place))]
+#[inline(always)]
 fn settle_one(words: &mut [u64], i: usize, chosen: bool)
     requires { (Laid words.old) × (i < length (state_of words.old).rows) × (Timed 1 (get_or (state_of words.old).rows i no_row)) }
     ensures { words.new ≡ laid (with_row (state_of words.old) i (advance_row chosen (get_or (state_of words.old).rows i no_row))) }
@@ -68,34 +69,12 @@ fn advance_one(words: &mut [u64], i: usize, chosen: bool)
         return;
     }
     let rest = worked(work, chosen);
-    if rest == 0 {
-        settle_one(words, i, chosen);
-        return;
-    }
     let left = word(words, i, 10);
-    if left == 1 {
+    if rest == 0 || left == 1 {
         settle_one(words, i, chosen);
         return;
     }
     put_going(words, i, wait, rest, left - 1);
-}
-
-// Whether a job with that work left and that kind is live and mandatory.
-fn is_urgent(work: u64, kind: u64) -> bool
-    ensures { result ≡ both (ltb 0 work) (eqb kind 1) }
-{
-    work > 0 && kind == 1
-}
-
-// The first live row: the one found before, or row i if it has work left.
-fn earlier(found: Option<usize>, i: usize, work: u64) -> Option<usize>
-    ensures { result ≡ pick (both (is_none found) (ltb 0 work)) (Some i) found }
-{
-    if found.is_none() && work > 0 {
-        Some(i)
-    } else {
-        found
-    }
 }
 
 // Step 2: the mandatory live job of the highest row; if there is none, the optional one of the highest row; if none, the tick is idle.
@@ -107,11 +86,12 @@ fn choose(words: &[u64]) -> Option<usize>
 {
     let mut optional = None;
     for i in 0..rows_of(words) {
-        let work = word(words, i, 9);
-        if is_urgent(work, word(words, i, 11)) {
-            return Some(i);
+        if word(words, i, 9) > 0 {
+            if word(words, i, 11) == 1 {
+                return Some(i);
+            }
+            optional = optional.or(Some(i));
         }
-        optional = earlier(optional, i, work);
     }
     optional
 }
@@ -131,8 +111,11 @@ fn advance_all(words: &mut [u64], chosen: Option<usize>)
     requires { Held 1 words.old }
     ensures { words.new ≡ laid (advanced_state (unwrap_or chosen (length (state_of words.old).rows)) (state_of words.old)) }
 {
-    for i in 0..rows_of(words) {
-        advance_one(words, i, chosen == Some(i));
+    let rows = rows_of(words);
+    // The number of rows where none is chosen, so that each row asks one comparison.
+    let row = chosen.unwrap_or(rows);
+    for i in 0..rows {
+        advance_one(words, i, i == row);
     }
 }
 
@@ -146,6 +129,7 @@ fn count_tick(words: &mut [u64], idle: bool)
 }
 
 // Steps 2 to 4, once the rows have released: the choice, the work and the settling.
+#[inline(always)]
 pub fn finish(words: &mut [u64])
     requires { Held 1 words.old }
     ensures { words.new ≡ laid (finish_law (state_of words.old)) }

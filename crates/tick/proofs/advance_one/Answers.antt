@@ -8,23 +8,19 @@ use Rattle.law.specs.State.{row_of, state_of, laid, with_row, words_of}
 use Rattle.law.proofs.Laid.{going}
 use Rattle.rows.proofs.Cases.{waited, is_resting, is_running, rests, goes_on_lem}
 use Rattle.rows.proofs.Words.{row_read, wait_put, going_put}
-use Rattle.tick.proofs.advance_one.Goals.{After-word-left, After-word-wait, After-word-work, Start}
+use Rattle.tick.proofs.advance_one.Goals.{After-word-left, After-word-wait, After-word-work}
 use Rattle.tick.proofs.advance_one.Goals as goal
 
--- the row as it was
-abbrev held : Start → Row
-held s = get_or (state_of s.args.words.now).rows s.args.i no_row
-
 -- the words read are its wait, work and time left
-wait_read : (c : After-word-wait) → c.word-wait.result ≡ (held c.before.before).core.wait
+wait_read : (c : After-word-wait) → c.word-wait.result ≡ (get_or (state_of c.args.words.now).rows c.args.i no_row).core.wait
 unfolding row_of
 wait_read c = c.word-wait.ensures ∙ ap (λ (z : Row). z.core.wait) (row_read _ _ c.requires.1)
 
-work-read : (c : After-word-work) → c.word-work.result ≡ (held c.before.before.before).core.work
+work-read : (c : After-word-work) → c.word-work.result ≡ (get_or (state_of c.args.words.now).rows c.args.i no_row).core.work
 unfolding row_of
 work-read c = c.word-work.ensures ∙ ap (λ (z : Row). z.core.work) (row_read _ _ c.requires.1)
 
-left-read : (c : After-word-left) → c.word-left.result ≡ (held c.before.before.before.before.before.before.before).core.left
+left-read : (c : After-word-left) → c.word-left.result ≡ (get_or (state_of c.args.words.now).rows c.args.i no_row).core.left
 unfolding row_of
 left-read c = c.word-left.ensures ∙ ap (λ (z : Row). z.core.left) (row_read _ _ c.requires.1)
 
@@ -34,7 +30,7 @@ overflow_sub-wait c = subst (λ (z : ℕ). 1 ≤ z) (sym (wait_read c)) c.requir
 pub returns-then-work-eq0 : goal.returns-then-work-eq0
 unfolding words_of
 returns-then-work-eq0 c =
-    let r = held (goal.at.returns-then-work-eq0 c).Start in
+    let r = get_or (state_of c.args.words.now).rows c.args.i no_row in
     c.put_wait.ensures
     ∙ wait_put c.requires.0 c.args.i _ (waited r) c.requires.1 (ap (λ (z : ℕ). set (words_of r) 7 (z - 1)) (sym (wait_read (goal.at.returns-then-work-eq0 c).After-word-wait)))
     ∙ ap (λ (z : Row). laid (with_row (state_of c.args.words.now) c.args.i z))
@@ -47,7 +43,7 @@ overflow_sub-left c =
 
 pub returns : goal.returns
 returns c =
-    let r = held (goal.at.returns c).Start in
+    let r = get_or (state_of c.args.words.now).rows c.args.i no_row in
     let chosen = c.args.chosen in
     let worked : c.worked-rest.result ≡ work_after chosen r.core = c.worked-rest.ensures ∙ ap (λ (z : ℕ). z - bit chosen) (work-read (goal.at.returns c).After-word-work) in
     c.put_going.ensures ∙ going_put c.requires.0 c.args.i _ _ _ c.requires.1

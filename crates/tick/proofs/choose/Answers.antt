@@ -1,31 +1,30 @@
 -- `tick::choose` meets its contract: no row passed is urgent, and `optional` is the first live one among them, if any.
 use mathlib.Core.Bool.{Bool, true, false}
 use mathlib.Core.List.{List}
-use mathlib.Core.Path.{◌≡◌, refl, sym, ap, ◌∙◌}
-use Prim.Native.Nat.{ℕ, ◌+◌, ◌≤◌, ◌<◌}
+use mathlib.Core.Path.{◌≡◌, refl, sym, ap, ◌∙◌, subst}
+use Prim.Native.Nat.{ℕ, ◌+◌, ◌*◌, ◌≤◌, ◌<◌}
 use native.Mathlib.Omega.{arith}
-use lib.Dec.{eqb, ltb}
-use lib.ListN.{length}
-use borrow.Author.Tests.{lt-ltb, le-ltb}
+use lib.ListN.{length, get_or}
+use borrow.Author.Tests.{eq-eqb, ne_eqb, lt-ltb, le-ltb}
 use Rattle.std.proofs.Common.{Option, None, Some}
-use Rattle.std.specs.Option.{is_none, unwrap_or}
-use Rattle.law.specs.Sums.{both, pick, first}
+use Rattle.std.specs.Option.{option_or, unwrap_or}
+use Rattle.law.specs.Sums.{first}
 use Rattle.law.specs.Tick.{Row, core_at, choose}
 use Rattle.law.specs.State.{row_of, state_of}
 use Rattle.law.proofs.First.{searched_hit, searched_next, searched_end}
 use Rattle.rows.proofs.Words.{row_read}
 use Rattle.tick.proofs.choose.Invariants.{urgents, lives, Best, Choosing}
-use Rattle.tick.proofs.choose.Goals.{After-is_urgent}
+use Rattle.tick.proofs.choose.Goals.{else-word-gt0, then-word-gt0+else-word-eq1}
 use Rattle.tick.proofs.choose.Goals as goal
 
--- the first live row found, after one more
-best_next : {p : ℕ → Bool} {n i : ℕ} (best x : Option ℕ) (b : Bool) → Best p n i best → i < n → p i ≡ b → x ≡ pick (both (is_none best) b) (Some i) best → Best p n (i + 1) x
-best_next (Some r) x b s h e f =
-    record { found = λ q g. s.found q (sym f ∙ g); still = λ g. absurd (cc (f, g)) }
-best_next {i = i} None x true s h e f =
-    record { found = λ q g. let w : i ≡ q = cc (f, g) in (omega arith, searched_hit (s.still refl) h e ∙ w); still = λ g. absurd (cc (f, g)) }
-best_next None x false s h e f =
-    record { found = λ q g. absurd (cc (f, g)); still = λ g. searched_next (s.still refl) h e }
+-- the first live row found, after one more that is not live, or is
+best_dead : {p : ℕ → Bool} {n i : ℕ} {best : Option ℕ} → Best p n i best → i < n → p i ≡ false → Best p n (i + 1) best
+best_dead s h e = record { found = s.found; still = λ g. searched_next (s.still g) h e }
+
+best_live : {p : ℕ → Bool} {n i : ℕ} (best : Option ℕ) → Best p n i best → i < n → p i ≡ true → Best p n (i + 1) (option_or best (Some i))
+best_live (Some r) s h e = record { found = s.found; still = λ g. absurd (cc g) }
+best_live {i = i} None s h e =
+    record { found = λ q g. let w : i ≡ q = cc g in (omega arith, searched_hit (s.still refl) h e ∙ w); still = λ g. absurd (cc g) }
 
 best_end : {p : ℕ → Bool} {n i : ℕ} (best : Option ℕ) → Best p n i best → n ≤ i → unwrap_or best n ≡ first p n
 best_end (Some r) s h = sym (s.found r refl).1
@@ -39,14 +38,8 @@ module _ {words : List ℕ} {n i : ℕ} {best : Option ℕ} (s : Choosing words 
       let u : first (urgents words) (length (state_of words).rows) ≡ i = ap (first (urgents words)) (sym s.total) ∙ searched_hit s.searched h e in
       sym (rw (u, lt-ltb i (length (state_of words).rows) (omega (arith, s.total))))
 
-  choosing-next : (x : Option ℕ) (b : Bool) → i < n → urgents words i ≡ false → lives words i ≡ b → x ≡ pick (both (is_none best) b) (Some i) best → Choosing words n (i + 1) x
-  choosing-next x b h e l f =
-      record {
-        laid = s.laid;
-        total = s.total;
-        searched = searched_next s.searched h e;
-        best-live = best_next best x b s.best-live h l f;
-      }
+  choosing-next : (x : Option ℕ) → i < n → urgents words i ≡ false → Best (lives words) n (i + 1) x → Choosing words n (i + 1) x
+  choosing-next x h e b = record { laid = s.laid; total = s.total; searched = searched_next s.searched h e; best-live = b }
 
   -- without one it is the first live row
   chosen_live : n ≤ i → unwrap_or best n ≡ choose (state_of words).rows
@@ -56,39 +49,54 @@ module _ {words : List ℕ} {n i : ℕ} {best : Option ℕ} (s : Choosing words 
       best_end best s.best-live h ∙ ap (first (lives words)) s.total
       ∙ sym (rw (u, le-ltb (length (state_of words).rows) (length (state_of words).rows) (omega arith)))
 
--- the two words that were read are the row's work and kind
-abbrev Turn : Type 0
-Turn = After-is_urgent
+-- the two words of a row that are read are its work and its kind
+module _ (words : List ℕ) (i : ℕ) (h : i < length (state_of words).rows) where
+  work-is : get_or words (i * 20 + (3 + 9)) 0 ≡ (core_at (state_of words).rows i).work
+  unfolding row_of
+  work-is = ap (λ (z : Row). z.core.work) (row_read words i h)
 
-abbrev words-in : Turn → List ℕ
-words-in c = c.args.words.now
+  kind-is : get_or words (i * 20 + (3 + 11)) 0 ≡ (core_at (state_of words).rows i).kind
+  unfolding row_of
+  kind-is = ap (λ (z : Row). z.core.kind) (row_read words i h)
 
-row_in : (c : Turn) → c.loop-i.i < length (state_of (words-in c)).rows
-row_in c = omega (arith, c.rows_of-i-end.ensures, c.loop-i-test.true)
+  is-live : 0 < get_or words (i * 20 + (3 + 9)) 0 → lives words i ≡ true
+  unfolding lives
+  is-live w = lt-ltb 0 (core_at (state_of words).rows i).work (omega (arith, work-is))
 
-work-read : (c : Turn) → c.word-work.result ≡ (core_at (state_of (words-in c)).rows c.loop-i.i).work
-unfolding row_of
-work-read c = c.word-work.ensures ∙ ap (λ (z : Row). z.core.work) (row_read _ _ (row_in c))
+  not-live : get_or words (i * 20 + (3 + 9)) 0 ≤ 0 → lives words i ≡ false
+  unfolding lives
+  not-live w = le-ltb 0 (core_at (state_of words).rows i).work (omega (arith, work-is))
 
-kind-read : (c : Turn) → c.word.result ≡ (core_at (state_of (words-in c)).rows c.loop-i.i).kind
-unfolding row_of
-kind-read c = c.word.ensures ∙ ap (λ (z : Row). z.core.kind) (row_read _ _ (row_in c))
+  is-urgent : 0 < get_or words (i * 20 + (3 + 9)) 0 → get_or words (i * 20 + (3 + 11)) 0 ≡ 1 → urgents words i ≡ true
+  unfolding urgents lives
+  is-urgent w k = rw (is-live w, eq-eqb (core_at (state_of words).rows i).kind 1 (sym kind-is ∙ k))
 
-told : (c : Turn) → urgents (words-in c) c.loop-i.i ≡ c.is_urgent.result
-unfolding urgents
-told c =
-    sym
-    (c.is_urgent.ensures ∙ ap (λ (z : ℕ). both (ltb 0 z) (eqb c.word.result 1)) (work-read c)
-    ∙ ap (λ (z : ℕ). both (ltb 0 (core_at (state_of (words-in c)).rows c.loop-i.i).work) (eqb z 1)) (kind-read c))
+  not-urgent : 0 < get_or words (i * 20 + (3 + 9)) 0 → (get_or words (i * 20 + (3 + 11)) 0 ≡ 1 → ⊥) → urgents words i ≡ false
+  unfolding urgents lives
+  not-urgent w k = rw (is-live w, ne_eqb (core_at (state_of words).rows i).kind 1 (λ e. k (kind-is ∙ e)))
 
-pub returns-then-is_urgent-clause-row : goal.returns-then-is_urgent-clause-row
-returns-then-is_urgent-clause-row c =
-    chosen_urgent c.loop-i.invariant (row_in (goal.at.returns-then-is_urgent-clause-row c).After-is_urgent) (told (goal.at.returns-then-is_urgent-clause-row c).After-is_urgent ∙ c.if-is_urgent.true)
+  dead-calm : get_or words (i * 20 + (3 + 9)) 0 ≤ 0 → urgents words i ≡ false
+  unfolding urgents lives
+  dead-calm w = rw (not-live w)
+
+pub returns-then-word-eq1-clause-row : goal.returns-then-word-eq1-clause-row
+returns-then-word-eq1-clause-row c =
+    let words = c.args.words.now in
+    let h : c.loop-i.i < length (state_of words).rows = omega (arith, c.rows_of-i-end.ensures, c.loop-i-test.true) in
+    chosen_urgent c.loop-i.invariant h (is-urgent words _ h (omega (arith, c.if-word-gt0.true, c.word.ensures)) (sym c.word-then-word-gt0.ensures ∙ c.if-word-eq1.true))
 
 pub loop-i-preserved : goal.loop-i-preserved
-unfolding lives
 loop-i-preserved c =
-    choosing-next c.loop-i.invariant _ _ (row_in (goal.at.loop-i-preserved c).After-is_urgent) (told (goal.at.loop-i-preserved c).After-is_urgent ∙ c.if-is_urgent.false) (ap (ltb 0) (sym (work-read (goal.at.loop-i-preserved c).After-is_urgent))) c.earlier-optional.ensures
+    let words = c.args.words.now in
+    let g = c.loop-i.invariant in
+    let h : c.loop-i.i < length (state_of words).rows = omega (arith, c.rows_of-i-end.ensures, c.loop-i-test.true) in
+    elim c.if-word-gt0.branch [
+      | else-word-gt0 w ↦ let off : get_or words (c.loop-i.i * 20 + (3 + 9)) 0 ≤ 0 = omega (arith, w.if-word-gt0.false, c.word.ensures) in
+          choosing-next g _ h (dead-calm words _ h off) (subst (Best (lives words) _ _) (sym w.optional-is) (best_dead g.best-live h (not-live words _ h off)))
+      | then-word-gt0+else-word-eq1 w ↦ let on : 0 < get_or words (c.loop-i.i * 20 + (3 + 9)) 0 = omega (arith, w.if-word-gt0.true, c.word.ensures) in
+          choosing-next g _ h (not-urgent words _ h on (λ e. w.if-word-eq1.false (w.word-then-word-gt0.ensures ∙ e)))
+          (subst (Best (lives words) _ _) (sym (w.optional-is ∙ w.or-optional.ensures)) (best_live _ g.best-live h (is-live words _ h on)))
+    ]
 
 pub returns-clause-row : goal.returns-clause-row
 returns-clause-row c = chosen_live c.loop-i.invariant (omega (arith, c.loop-i-test.false, c.rows_of-i-end.ensures))
