@@ -9,7 +9,7 @@ ghost use Rattle.table.specs.Said.{task_said};
 
 use refusal::{Refusal, is_within};
 
-// A row, by its words.
+// A row, by its words as they stand before they are checked: so p is a number, 0 for even and 1 for deeply-red.
 #[derive(Clone, Copy, Debug, PartialEq, Eq)]
 pub struct Task {
     pub id: u64,
