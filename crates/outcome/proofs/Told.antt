@@ -1,19 +1,16 @@
 -- What was written to the two streams is what is to stand there once an answer is told.
-use Rattle.std.proofs.Common.{◌≡◌, ℕ, ◌+◌, ◌≤◌, Bool, true, false, eqb, List, [], ◌∷◌, Result, Ok, Err, length, map, take, ap, ap₂, refl, sym, ◌∙◌, arith}
+use Rattle.std.proofs.Common.{◌≡◌, ℕ, ◌+◌, ◌≤◌, Bool, true, false, eqb, List, [], ◌∷◌, Result, Ok, Err, length, map, ap, ap₂, refl, sym, arith}
 use native.Mathlib.Nat.{zero-add}
 use Rattle.law.specs.Sums.{pick}
 use Rattle.law.specs.Refusal.{Answer, head, after}
 use Rattle.law.specs.Reading.{put_answer}
 use Rattle.law.specs.Carry.{error_of}
 use Rattle.law.specs.Report.{refusal_printed, placed}
-use Rattle.law.proofs.Report.{refusal_most}
 use Rattle.law.proofs.TextAnswers.{put_says}
 use Rattle.law.proofs.TextSmall.{also_in}
 use Rattle.law.proofs.Verdict.{after_accepted}
 use Rattle.refusal.specs.declared.Refusal.{Refusal}
 use Rattle.refusal.specs.Shown.{number_of, also_of, shown, answered}
-use Rattle.line.specs.Put.{put_at}
-use Rattle.line.proofs.Pieces.{front_taken}
 use Rattle.outcome.specs.Tellable.{Tellable}
 
 -- a place that counts from byte 0 stays as it is
@@ -28,13 +25,8 @@ placed_zero n also = by (eqb n 12)
     by true = same also
     by false = refl
 
--- what a refusal puts: it has room, and is what stands at the start
-module _ (r : Refusal) (n : ℕ) (is : n ≡ length (refusal_printed (number_of r) (placed 0 (number_of r) (also_of r)))) where
-  pub put_most : n ≤ 33
-  put_most = omega (arith, is, refusal_most (number_of r) (placed 0 (number_of r) (also_of r)))
-
-  pub put_taken : (old new : List ℕ) → new ≡ put_at old 0 (refusal_printed (number_of r) (placed 0 (number_of r) (also_of r))) → take n new ≡ error_of (shown r)
-  put_taken old new e = front_taken _ _ e is ∙ ap (refusal_printed (number_of r)) (placed_zero (number_of r) (also_of r))
+pub said_zero : (r : Refusal) → refusal_printed (number_of r) (placed 0 (number_of r) (also_of r)) ≡ error_of (shown r)
+said_zero r = ap (refusal_printed (number_of r)) (placed_zero (number_of r) (also_of r))
 
 -- what a conversion answers can be told: the text that it put lies within the room
 pub tellable : (a : Result ℕ Refusal) (first : Answer) (text left : List ℕ) (room : ℕ) → answered a ≡ after first (put_answer text room)

@@ -11,6 +11,7 @@ ghost use Rattle.outcome.specs.Tellable.{Tellable};
 ghost use Rattle.outcome.specs.Tells.{Tells};
 
 use intake::read_full;
+use line::page::Page;
 use line::refused::put_refusal;
 use refusal::Refusal;
 use std::io;
@@ -21,9 +22,9 @@ fn say<E: Write>(r: Refusal, error: &mut E) -> io::Result<()>
     requires { head (also_of r) ≤ 4294967295 }
     ensures { OnOk result (Appends (E.contents error.old) (E.contents error.new) (error_of (shown r))) }
 {
-    let mut refusal = [0u8; 64];
-    let n = put_refusal(&mut refusal, r, 0);
-    error.write_all(&refusal[..n])
+    let mut page = Page::<64>::new();
+    put_refusal(&mut page, r, 0);
+    error.write_all(page.as_slice())
 }
 
 // That nothing stands on standard error tells a program's caller that all went well. So a text that could not be written whole is told there
