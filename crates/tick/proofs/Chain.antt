@@ -4,10 +4,11 @@ use mathlib.Core.List.{List}
 use mathlib.Core.Path.{◌≡◌, refl, sym, ap, ◌∙◌, subst}
 use mir.Val.{bool_byte}
 use Prim.Native.Nat.{ℕ, ◌+◌, ◌<◌}
+use native.Mathlib.Decide.{ℕ_discrete}
 use native.Mathlib.Omega.{arith}
 use borrow.Author.Tests.{eq-eqb, ne_eqb}
 use Rattle.std.proofs.Common.{Option, None, Some, IfSome}
-use Rattle.std.specs.Option.{is_some, unwrap_or}
+use Rattle.std.specs.Option.{is_some, unwrap_or, option_eq}
 use lib.Dec.{eqb}
 use lib.ListN.{length, get_or, set}
 use Rattle.law.specs.Sums.{bit}
@@ -78,6 +79,12 @@ none_chosen None rows true h e = sym (eq-eqb rows rows refl)
 none_chosen None rows false h e = absurd (cc e)
 none_chosen (Some i) rows false h e = sym (ne_eqb i rows (λ e. omega (arith, h)))
 none_chosen (Some i) rows true h e = absurd (cc e)
+
+-- whether row i is the chosen one
+pub row_chosen : (chosen : Option ℕ) (rows i : ℕ) → i < rows → option_eq eqb chosen (Some i) ≡ eqb i (unwrap_or chosen rows)
+row_chosen None rows i h = sym (ne_eqb i rows (λ e. omega arith))
+row_chosen (Some j) rows i h =
+    elim (ℕ_discrete j i) [ yes e ↦ eq-eqb j i e ∙ sym (eq-eqb i j (sym e)) | no e ↦ ne_eqb j i e ∙ sym (ne_eqb i j (λ z. e (sym z))) ]
 
 -- all of a tick
 pub ticked_with : (w₀ : List ℕ) {w₁ w₂ : List ℕ} (work : ℕ → ℕ) → w₁ ≡ laid (begin work (state_of w₀)) → w₂ ≡ laid (finish (state_of w₁))

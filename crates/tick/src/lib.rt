@@ -45,7 +45,7 @@ fn release_one(words: &mut [u64], i: usize, pattern: u64)
     release_row(words, i, pattern, work);
 }
 
-// Steps 3 and 4 for row i, the whole row.
+// Steps 3 and 4 for row i, the whole row. Inlined, as `finish` is: a call for each job that settles, and for each tick, is slower.
 #[tactic(auto, using(rows::proofs::Words::in_place))]
 #[inline(always)]
 fn settle_one(words: &mut [u64], i: usize, chosen: bool)
@@ -111,11 +111,8 @@ fn advance_all(words: &mut [u64], chosen: Option<usize>)
     requires { Held 1 words.old }
     ensures { words.new ≡ laid (advanced_state (unwrap_or chosen (length (state_of words.old).rows)) (state_of words.old)) }
 {
-    let rows = rows_of(words);
-    // The number of rows where none is chosen, so that each row asks one comparison.
-    let row = chosen.unwrap_or(rows);
-    for i in 0..rows {
-        advance_one(words, i, i == row);
+    for i in 0..rows_of(words) {
+        advance_one(words, i, chosen == Some(i));
     }
 }
 

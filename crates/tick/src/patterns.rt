@@ -9,13 +9,16 @@ use crate::rows_of;
 use book::{Pair, low_bits};
 use rows::task_of;
 
-// The word of a row's own pattern: that of an even one stands in the book; a deeply-red one, whose p is 1, has its first m bits set.
+// The p of a deeply-red pattern.
+const RED: u64 = 1;
+
+// The word of a row's own pattern: that of an even one stands in the book; a deeply-red one has its first m bits set.
 fn pattern_of(words: &[u64], i: usize) -> u64
     requires { (Held 0 words.now) × (i < length (state_of words.now).rows) }
     ensures { result ≡ word_of (core_at (state_of words.now).rows i).task }
 {
     let task = task_of(words, i);
-    if task.p == 1 {
+    if task.p == RED {
         return low_bits(task.m);
     }
     let pair = Pair {

@@ -16,11 +16,11 @@ task-read c = c.task_of-task.ensures ∙ ap (λ (z : Row). z.core.task) (row_rea
 ranged : (c : After-task_of-task) → Ranged (task_said c.task_of-task.result)
 ranged c = subst Ranged (sym (task-read c)) (c.requires.0.sound.rows c.args.i c.requires.1).core.ranged
 
-pub returns-then-task-eq1 : goal.returns-then-task-eq1
-returns-then-task-eq1 c =
-    let t = (goal.at.returns-then-task-eq1 c).After-task_of-task in
-    c.low_bits.ensures ∙ sym (word_red _ (ranged t) c.if-task-eq1.true) ∙ ap word_of (task-read t)
+pub returns-then-task-eq-RED : goal.returns-then-task-eq-RED
+returns-then-task-eq-RED c =
+    let t = (goal.at.returns-then-task-eq-RED c).After-task_of-task in
+    c.low_bits.ensures ∙ sym (word_red _ (ranged t) c.if-task-eq-RED.true) ∙ ap word_of (task-read t)
 
 pub returns : goal.returns
 returns c =
-    c.word.ensures ∙ sym (word_even (task_said c.task_of-task.result) c.if-task-eq1.false) ∙ ap word_of (task-read (goal.at.returns c).After-task_of-task)
+    c.word.ensures ∙ sym (word_even (task_said c.task_of-task.result) c.if-task-eq-RED.false) ∙ ap word_of (task-read (goal.at.returns c).After-task_of-task)
