@@ -25,8 +25,9 @@ placed_zero n also = by (eqb n 12)
     by true = same also
     by false = refl
 
-pub said_zero : (r : Refusal) → refusal_printed (number_of r) (placed 0 (number_of r) (also_of r)) ≡ error_of (shown r)
-said_zero r = ap (refusal_printed (number_of r)) (placed_zero (number_of r) (also_of r))
+-- a refusal that is put with places from byte 0 on is what is to stand on standard error
+pub said : (r : Refusal) → refusal_printed (number_of r) (placed 0 (number_of r) (also_of r)) ≡ error_of (shown r)
+said r = ap (refusal_printed (number_of r)) (placed_zero (number_of r) (also_of r))
 
 -- what a conversion answers can be told: the text that it put lies within the room
 pub tellable : (a : Result ℕ Refusal) (first : Answer) (text left : List ℕ) (room : ℕ) → answered a ≡ after first (put_answer text room)

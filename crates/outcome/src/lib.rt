@@ -18,11 +18,12 @@ use std::io;
 use std::io::{Read, Write};
 
 // A refusal in the house form.
+#[tactic(auto, using(crate::proofs::Told::said))]
 fn say<E: Write>(r: Refusal, error: &mut E) -> io::Result<()>
     requires { head (also_of r) ≤ 4294967295 }
     ensures { OnOk result (Appends (E.contents error.old) (E.contents error.new) (error_of (shown r))) }
 {
-    let mut page = Page::<64>::new();
+    let mut page = Page::<33>::new();
     put_refusal(&mut page, r, 0);
     error.write_all(page.as_slice())
 }
