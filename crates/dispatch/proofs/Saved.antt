@@ -63,6 +63,9 @@ module _ (words : List ℕ) where
             rw (time_word words, idle_word words, eq-eqb (length words) 643 long, table_rows, rows, clean, le-leb (state_of words).time clock_end (rw (time_word words) at early))
             (both_nested (leb (state_of words).idle (state_of words).time) (every (row_well (state_of words).time) (state_of words).rows) (every (λ w. eqb w 0) (drop (3 + get_or words 0 0 * 20) words)))
 
+-- the ways out of `dispatch::well::is_well`, and what its calls ask
+pub ruleset ways_out = (length_off, rows_off, sized, table_off, time_off, last_on, rows_few)
+
 -- words that pass are the words of a well-formed state
 pub saved_held : (words : List ℕ) → saved_well words ≡ true → Held 0 words
 unfolding saved_well

@@ -78,7 +78,8 @@ fn row_well(r: Row, time: u64) -> bool
     tally_well(r, time) && core_well(r)
 }
 
-// Whether a row's id, word 0 of a row, stands in an earlier row.
+// Whether a row's id, word 0 of a row, stands in an earlier row. The table's own looks at a lent table of 32-bit words: one function for
+// both would take a closure with its clauses for these five lines.
 fn is_repeated(words: &[u64], rows: usize, i: usize) -> bool
     requires { (Sized words.now rows) × (i < rows) }
     ensures { result ≡ repeated (tasks_of (state_of words.now).rows) i }
@@ -130,7 +131,7 @@ fn is_clear(words: &[u64]) -> bool
 }
 
 // Whether words are a well-formed state: their number, the table, the clock, each row, and nothing after the last row.
-#[tactic(auto, using(crate::proofs::Saved::length_off, crate::proofs::Saved::rows_off, crate::proofs::Saved::sized, crate::proofs::Saved::table_off, crate::proofs::Saved::time_off, crate::proofs::Saved::last_on, crate::proofs::Saved::rows_few))]
+#[tactic(auto, using(crate::proofs::Saved::ways_out))]
 pub fn is_well(words: &[u64]) -> bool
     ensures { result ≡ saved_well words.now }
 {

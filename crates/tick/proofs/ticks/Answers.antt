@@ -48,7 +48,7 @@ loop-done-init c =
 pub tick-requires : goal.tick-requires
 tick-requires c =
     let r = c.loop-done.invariant in
-    (ran-held r, ran-early r c.loop-done-test.true, ran-fetched r)
+    (ran-held r, ran-early r (omega (arith, c.loop-done-test.true)), ran-fetched r)
 
 pub loop-done-preserved : goal.loop-done-preserved
-loop-done-preserved c = ran-next c.loop-done.invariant _ c.loop-done-test.true c.tick.ensures
+loop-done-preserved c = ran-next c.loop-done.invariant _ (omega (arith, c.loop-done-test.true)) c.tick.ensures
