@@ -1,5 +1,5 @@
 -- What a conversion is: one call at what was read and at a room, and what is told of its answer and of what it left in the room.
-use Rattle.std.specs.Prelude.{◌≡◌, ℕ, List, Option, Result, length}
+use Rattle.std.specs.Prelude.{◌≡◌, ℕ, List, Option, IfSome, Result, length, take}
 use Rattle.std.specs.Fn.{Once}
 use denote.Ref.{Bor, MutBor}
 use Rattle.refusal.specs.declared.Refusal.{Refusal}
@@ -22,8 +22,10 @@ module _ {F : Type 0} (g : Once F (Bor (List ℕ) × (MutBor (List ℕ) × Unit 
   AlwaysTellable room =
       (text : List ℕ) (answer : Result ℕ Refusal) (left : List ℕ) → length left ≡ length room → Answers text room answer left → Tellable answer left
 
-  -- the text is converted, and what came of it told
-  pub record Converts (text room : List ℕ) (out out' error error' : Option (List ℕ)) : Type 0 where
+  -- what was read of an input, its first 2,048 bytes where they are known, is converted, and what came of it told
+  pub record Converts (known : Option (List ℕ)) (room : List ℕ) (out out' error error' : Option (List ℕ)) : Type 0 where
+    pub text : List ℕ
+    pub read : IfSome known (λ bytes. text ≡ take 2048 bytes)
     pub answer : Result ℕ Refusal
     pub left : List ℕ
     pub is : Answers text room answer left

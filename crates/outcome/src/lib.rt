@@ -1,7 +1,7 @@
 // What a converting program does: it reads, converts, and says the text on standard output and nothing else, or a refusal on standard error.
 #![tactic(auto)]
 
-ghost use Rattle.std.specs.Prelude.{◌≤◌, take, OnOk, IfSome};
+ghost use Rattle.std.specs.Prelude.{◌≤◌, OnOk};
 ghost use Rattle.std.specs.Io.KnownBytes.{Appends};
 ghost use Rattle.law.specs.Refusal.{head};
 ghost use Rattle.law.specs.Carry.{error_of};
@@ -65,9 +65,8 @@ where
     F: FnOnce(&[u8], &mut [u8]) -> Result<usize, Refusal>,
     requires callable { F.IsAlwaysCallable call }
     requires tellable { AlwaysTellable F.FnOnce call room.old }
-    ensures { OnOk result (IfSome (R.remaining input.old) (λ bytes.
-        Converts F.FnOnce call (take 2048 bytes) room.old (O.contents out.old) (O.contents out.new)
-        (E.contents error.old) (E.contents error.new))) }
+    ensures { OnOk result (Converts F.FnOnce call (R.remaining input.old) room.old
+        (O.contents out.old) (O.contents out.new) (E.contents error.old) (E.contents error.new)) }
 {
     let mut text = [0u8; 2048];
     let n = read_full(input, &mut text)?;
