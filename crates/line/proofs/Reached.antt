@@ -143,9 +143,6 @@ module _ {digits : List ℕ} {i v : ℕ} (s : Summed digits i v) (h : i < length
   pub digit_least : 48 ≤ get_or digits i 0
   digit_least = (digit_at digits s.good i h).0
 
-  pub digit_most : get_or digits i 0 ≤ 57
-  digit_most = (digit_at digits s.good i h).1
-
   pub summed_next : (d : ℕ) → d ≡ get_or digits i 0 - 48 → Summed digits (i + 1) (v * 10 + d)
   summed_next d e =
       let so : v * 10 + d ≡ number_of (take (i + 1) digits) = omega (arith, s.so_far, number_next digits s.good i h) in

@@ -2,7 +2,7 @@
 use mathlib.Core.List.{List, [], ◌∷◌, ◌++◌}
 use mathlib.Core.Path.{◌≡◌, refl, sym, ap, ◌∙◌}
 use Prim.Native.Nat.{ℕ, suc, ◌+◌, ◌-◌, ◌*◌, ◌≤◌, ◌<◌}
-use native.Mathlib.Nat.{sub-zero, zero-mul, suc-mul, mul-le-mul}
+use native.Mathlib.Nat.{suc-mul, mul-le-mul}
 use native.Mathlib.Numerals.{add-one}
 use native.Mathlib.Omega.{arith}
 use lib.ListN.{length, get_or, take, drop, set, length-set, length-drop, drop_of_length-le}
@@ -14,16 +14,13 @@ use Rattle.line.specs.declared.read.Fault.{Fault}
 use Rattle.text.specs.Said.{ended}
 use Rattle.law.specs.Text.{row_keys, keys_of}
 use Rattle.law.specs.Reading.{found, fault, line_at, lines_at}
-use Rattle.law.proofs.TextSteps.{ReadSo, so_start, so_next, so_fault, so_more, so_broken, so_all, keys_more}
+use Rattle.law.proofs.TextSteps.{ReadSo, so_next, so_fault, so_more, so_broken, so_all, keys_more}
 
 -- the first j words of a row
 pub record RowSo (text : List ℕ) (from : ℕ) (row : List ℕ) (n at j : ℕ) : Type 0 where
   pub so : ReadSo text from (take n row_keys) (take j row) (drop j (take n row_keys)) at
   pub long : length row ≡ n
   pub narrow : n ≤ 7
-
-pub row_start : (text : List ℕ) (from : ℕ) (row : List ℕ) → from ≤ length text → length row ≤ 7 → RowSo text from row (length row) from 0
-row_start text from row h l = record { so = so_start h; long = refl; narrow = l }
 
 module _ {text : List ℕ} {from : ℕ} {row : List ℕ} {n at j : ℕ} (r : RowSo text from row n at j) where
   module _ (h : j < n) where
@@ -65,12 +62,6 @@ pub record RowsSo (text : List ℕ) (from rows width : ℕ) (words : List ℕ) (
   pub long : length words ≡ 224
   pub few : rows ≤ 32
   pub narrow : width ≤ 7
-
-pub rows_start : (text : List ℕ) (from rows width : ℕ) (words : List ℕ) → from ≤ length text → length words ≡ 224 → rows ≤ 32 → width ≤ 7
-    → RowsSo text from rows width words from 0
-rows_start text from rows width words h l f n =
-    let none : take (0 * width) words ≡ [] = ap (λ (z : ℕ). take z words) (zero-mul width) in
-    record { so = rw (none, sub-zero) (so_start h); long = l; few = f; narrow = n }
 
 module _ {text : List ℕ} {from rows width : ℕ} {words : List ℕ} {at i : ℕ} (r : RowsSo text from rows width words at i) where
   module _ (h : i < rows) where

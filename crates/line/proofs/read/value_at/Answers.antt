@@ -1,9 +1,8 @@
 use mathlib.Core.Path.{sym, ◌∙◌}
-use Prim.Native.Nat.{◌+◌}
 use native.Mathlib.Nat.{add-sub_cancel_left}
 use native.Mathlib.Numerals.{add-one}
 use native.Mathlib.Omega.{arith}
-use Rattle.law.proofs.TextLine.{value_good, inside}
+use Rattle.law.proofs.TextLine.{value_good}
 use Rattle.law.proofs.TextSteps.{value_within, value_empty, value_unended, value_ended}
 use Rattle.line.proofs.read.value_at.Goals.{then-n-eq0-via-then-n-eq0, then-n-eq0-via-else-n-eq0+then-byte_at-ne10}
 use Rattle.line.proofs.read.value_at.Goals as goal
@@ -35,7 +34,3 @@ number-requires c =
 
 pub returns-then-n-eq0-clause-inside : goal.returns-then-n-eq0-clause-inside
 returns-then-n-eq0-clause-inside c = omega (arith, c.value_length-n.ensures, value_within c.args.text.now c.args.at c.requires)
-
-pub returns-clause-inside : goal.returns-clause-inside
-returns-clause-inside c =
-    omega (arith, inside c.args.text.now (c.args.at + c.value_length-n.result) (omega (arith, c.byte_at.ensures, c.if-byte_at-ne10.false)))

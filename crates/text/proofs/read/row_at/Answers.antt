@@ -1,11 +1,8 @@
-use mathlib.Core.Path.{refl, sym, ◌∙◌}
+use mathlib.Core.Path.{sym, ◌∙◌}
 use native.Mathlib.Omega.{arith}
 use Rattle.law.proofs.TextSteps.{line_small}
-use Rattle.text.proofs.Readings.{row_start, row_next, row_fault, row_end}
+use Rattle.text.proofs.Readings.{row_next, row_fault, row_end}
 use Rattle.text.proofs.read.row_at.Goals as goal
-
-pub loop-j-init : goal.loop-j-init
-loop-j-init c = (refl, row_start _ _ _ c.args.reader.now.inside c.requires)
 
 pub returns-in_default-clause-read : goal.returns-in_default-clause-read
 returns-in_default-clause-read c =
