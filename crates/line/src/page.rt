@@ -1,5 +1,5 @@
 // Bytes with room for N, filled from the start on, piece by piece.
-ghost use Rattle.std.specs.Prelude.{[], ◌≡◌, ◌+◌, ◌≤◌, ◌<◌, ◌++◌, List, ℕ, length, take, get_or};
+ghost use Rattle.std.specs.Prelude.{[], ◌∷◌, ◌≡◌, ◌+◌, ◌≤◌, ◌<◌, ◌++◌, List, ℕ, length, take, get_or};
 ghost use Rattle.law.specs.Text.{row_keys};
 ghost use Rattle.law.specs.Reading.{put_answer, put_room};
 ghost use Rattle.refusal.specs.Shown.{answered};
@@ -53,6 +53,15 @@ impl<const N: usize> Page<N> {
         self.len = end;
     }
 
+    // One byte more.
+    pub fn push(&mut self, byte: u8)
+        requires { length self.old < N }
+        ensures { self.new ≡ self.old ++ byte ∷ [] }
+    {
+        self.bytes[self.len] = byte;
+        self.len += 1;
+    }
+
     // A line more: the key, the number, LF.
     pub fn put_line(&mut self, key: &[u8], v: u64)
         requires { (v ≤ 4294967295) × (length self.old + length (line_of key.now v) ≤ N) }
@@ -61,7 +70,7 @@ impl<const N: usize> Page<N> {
     {
         self.put(key);
         self.put(Buffer::new().format(v).as_bytes());
-        self.put(b"\n");
+        self.push(b'\n');
     }
 
     // The line that is due, j being its number within its row.

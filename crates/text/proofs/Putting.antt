@@ -2,7 +2,7 @@
 use mathlib.Core.List.{List, [], ◌++◌, append_assoc, append-nil}
 use mathlib.Core.Path.{◌≡◌, sym, ap, ◌∙◌}
 use Prim.Native.Nat.{ℕ, suc, ◌+◌, ◌*◌, ◌%◌, ◌≤◌, ◌<◌}
-use native.Mathlib.Nat.{mod-lt}
+use native.Mathlib.Nat.{mod-lt, zero-mod, mod-add-mod}
 use native.Mathlib.Numerals.{add-one}
 use native.Mathlib.Omega.{arith}
 use lib.ListN.{length, get_or, take, length-append}
@@ -37,23 +37,25 @@ module _ {words : List ℕ} {rows width : ℕ} (w : Whole words rows width) wher
   first_fits = omega (arith, lined_long, w.fits)
 
 -- the lines of the first l words stand behind the first line
-pub record PutSo (words : List ℕ) (rows width : ℕ) (page : List ℕ) (l : ℕ) : Type 0 where
+pub record PutSo (words : List ℕ) (rows width : ℕ) (page : List ℕ) (l j : ℕ) : Type 0 where
   pub asked : Whole words rows width
+  pub in_row : j ≡ l % width
   pub bytes : page ≡ line_of rows_key rows ++ row_lines (take width row_keys) words rows l
 
-pub put_start : {words page : List ℕ} {rows width : ℕ} → Whole words rows width → page ≡ line_of rows_key rows → PutSo words rows width page 0
+pub put_start : {words page : List ℕ} {rows width : ℕ} → Whole words rows width → page ≡ line_of rows_key rows → PutSo words rows width page 0 0
 put_start {words} {page} {rows} {width} w e =
     record {
       asked = w;
+      in_row = sym (zero-mod width);
       bytes = e ∙ sym (append-nil (line_of rows_key rows))
           ∙ ap (λ (z : List ℕ). line_of rows_key rows ++ z) (sym (rows_none (take width row_keys) words rows));
     }
 
-module _ {words : List ℕ} {rows width : ℕ} {page : List ℕ} {l : ℕ} (p : PutSo words rows width page l) where
+module _ {words : List ℕ} {rows width : ℕ} {page : List ℕ} {l j : ℕ} (p : PutSo words rows width page l j) where
   module _ (h : l < length words) where
     -- the line that is due
     abbrev line : List ℕ
-    line = line_of (get_or row_keys (l % width) []) (get_or words l 0)
+    line = line_of (get_or row_keys j []) (get_or words l 0)
 
     next : row_lines (take width row_keys) words rows (suc l) ≡ row_lines (take width row_keys) words rows l ++ line
     unfolding line_of
@@ -61,12 +63,13 @@ module _ {words : List ℕ} {rows width : ℕ} {page : List ℕ} {l : ℕ} (p : 
         rows_next (take width row_keys) words rows (whole_rows p.asked) l h
         ∙ ap (λ (z : ℕ). row_lines (take width row_keys) words rows l ++ line_of (get_or (take width row_keys) (l % z) []) (get_or words l 0)) (wide p.asked)
         ∙ ap (λ (z : List ℕ). row_lines (take width row_keys) words rows l ++ line_of z (get_or words l 0))
-        (get_or-take width row_keys (l % width) [] (mod-lt l p.asked.some))
+        (get_or-take width row_keys (l % width) [] (mod-lt l p.asked.some) ∙ ap (λ (z : ℕ). get_or row_keys z []) (sym p.in_row))
 
-    pub put_next : {new : List ℕ} → new ≡ page ++ line → PutSo words rows width new (l + 1)
-    put_next e =
+    pub put_next : {new : List ℕ} {j' : ℕ} → new ≡ page ++ line → j' ≡ (j + 1) % width → PutSo words rows width new (l + 1) j'
+    put_next e q =
         record {
           asked = p.asked;
+          in_row = q ∙ ap (λ (z : ℕ). (z + 1) % width) p.in_row ∙ mod-add-mod l width 1;
           bytes = rw add-one
               (e ∙ ap (λ (z : List ℕ). z ++ line) p.bytes
               ∙ append_assoc (line_of rows_key rows) (row_lines (take width row_keys) words rows l) line
@@ -83,6 +86,9 @@ module _ {words : List ℕ} {rows width : ℕ} {page : List ℕ} {l : ℕ} (p : 
           simp length-append at (ap length next),
           rows_most (take width row_keys) words rows (whole_rows p.asked) (suc l) h,
         )
+
+  pub in_width : j < width
+  in_width = omega (arith, p.in_row, mod-lt l p.asked.some)
 
   pub put_all : l ≡ length words → page ≡ text_of (take width row_keys) words
   put_all e =

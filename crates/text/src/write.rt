@@ -8,6 +8,14 @@ use line::page::Page;
 use refusal::Refusal;
 use table::{WIDTH, check};
 
+// The number within its row of the line after line j: no division a line.
+fn next_line(j: usize, width: usize) -> usize
+    requires { j < width }
+    ensures { result ≡ (j + 1) % width }
+{
+    if j + 1 == width { 0 } else { j + 1 }
+}
+
 // The whole text of rows of so many words.
 fn text_page(words: &[u32], rows: usize, width: usize) -> Page<1512>
     requires { (length words.now ≡ rows * width) × (rows ≤ 32) × (0 < width) × (width ≤ 7) × (length (text_of (take width row_keys) words.now) ≤ 1512) }
@@ -15,8 +23,10 @@ fn text_page(words: &[u32], rows: usize, width: usize) -> Page<1512>
 {
     let mut page = Page::new();
     page.put_line(b"rows=", rows as u64);
-    for (l, word) in words.iter().enumerate() {
-        page.put_due(l % width, u64::from(*word));
+    let mut j = 0;
+    for word in words {
+        page.put_due(j, u64::from(*word));
+        j = next_line(j, width);
     }
     page
 }

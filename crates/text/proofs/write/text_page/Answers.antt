@@ -1,8 +1,7 @@
 use mathlib.Core.Path.{ap}
-use native.Mathlib.Nat.{mod-lt}
 use native.Mathlib.Omega.{arith}
 use lib.ListN.{length}
-use Rattle.text.proofs.Putting.{Whole, first_fits, put_start, due_fits, put_next, put_all}
+use Rattle.text.proofs.Putting.{Whole, first_fits, put_start, in_width, due_fits, put_next, put_all}
 use Rattle.text.proofs.write.text_page.Goals as goal
 
 pub put_line-requires : goal.put_line-requires
@@ -11,24 +10,27 @@ put_line-requires c =
     let w : Whole c.args.words.now c.args.rows c.args.width = record { whole = r.0; some = r.2; narrow = r.3; fits = r.4 } in
     (omega arith, (omega (arith, r.1), omega (arith, ap length c.new-page.ensures, first_fits w)))
 
-pub loop-l-init : goal.loop-l-init
-loop-l-init c =
+pub loop-word-init : goal.loop-word-init
+loop-word-init c =
     let r = c.requires in
     put_start (record { whole = r.0; some = r.2; narrow = r.3; fits = r.4 }) (rw c.new-page.ensures at c.put_line.ensures.line)
 
 pub put_due-requires : goal.put_due-requires
 put_due-requires c =
-    let w = c.loop-l.invariant.asked in (
+    let w = c.loop-word.invariant.asked in (
       omega arith,
       (
-        omega (arith, mod-lt c.loop-l.l w.some, w.narrow),
-        omega (arith, c.from.ensures, c.type_inv.words c.loop-l.l),
-        rw c.from.ensures (due_fits c.loop-l.invariant c.loop-l-test.true),
+        omega (arith, in_width c.loop-word.invariant, w.narrow),
+        omega (arith, c.from.ensures, c.type_inv.words c.loop-word.word-index),
+        rw c.from.ensures (due_fits c.loop-word.invariant c.loop-word-test.true),
       ),
     )
 
-pub loop-l-preserved : goal.loop-l-preserved
-loop-l-preserved c = put_next c.loop-l.invariant c.loop-l-test.true (rw c.from.ensures at c.put_due.ensures)
+pub loop-word-preserved : goal.loop-word-preserved
+loop-word-preserved c = put_next c.loop-word.invariant c.loop-word-test.true (rw c.from.ensures at c.put_due.ensures) c.next_line-j.ensures
 
 pub returns : goal.returns
-returns c = put_all c.loop-l.invariant (omega arith)
+returns c = put_all c.loop-word.invariant (omega arith)
+
+pub next_line-j-requires : goal.next_line-j-requires
+next_line-j-requires c = in_width c.loop-word.invariant

@@ -16,8 +16,8 @@ put-requires-2 g c =
     let digits = c.as_bytes.ensures.value ∙ c.format.ensures.text ∙ sym (decimal_written c.args.v c.requires.0) in
     (omega arith, omega (arith, line_length c.args.key.now c.args.v, simp length-append at (ap length c.put.ensures), ap length digits))
 
-pub put-requires-3 : goal.put-requires-3
-put-requires-3 g c =
+pub push-requires : goal.push-requires
+push-requires g c =
     let digits = c.as_bytes.ensures.value ∙ c.format.ensures.text ∙ sym (decimal_written c.args.v c.requires.0) in (
       omega arith,
       omega (
@@ -33,7 +33,7 @@ pub returns-clause-line : goal.returns-clause-line
 unfolding line_of
 returns-clause-line g c =
     let digits = c.as_bytes.ensures.value ∙ c.format.ensures.text ∙ sym (decimal_written c.args.v c.requires.0) in
-    rw (c.put-3.ensures, c.put-2.ensures, c.put.ensures, digits) (simp append_assoc)
+    rw (c.push.ensures, c.put-2.ensures, c.put.ensures, digits) (simp append_assoc)
 
 pub returns-clause-few : goal.returns-clause-few
 returns-clause-few g c =
@@ -44,5 +44,5 @@ returns-clause-few g c =
       simp length-append at (ap length c.put.ensures),
       ap length digits,
       simp length-append at (ap length c.put-2.ensures),
-      simp length-append at (ap length c.put-3.ensures),
+      simp length-append at (ap length c.push.ensures),
     )
