@@ -143,6 +143,9 @@ module _ (words : List ℕ) (i : ℕ) where
       unfolding row_of
       frame_row h = frame_told ∙ ap (λ (z : Row). accepted (z.tally.held ∷ [])) (sym (row_read words i (omega (arith, rows_are words))))
 
+-- the ways out of `dispatch::held::held_words`, and what its call asks
+pub ruleset frame_ways = (frame_length, frame_rows, frame_none, frame_row, within_high)
+
 -- of a well-formed state it is what the row's tally says
 pub frame_saved : (words : List ℕ) (i : ℕ) → saved_well words ≡ true → held_answer words i ≡ accepted ((get_or (state_of words).rows i no_row).tally.held ∷ [])
 frame_saved words i e =
