@@ -197,12 +197,10 @@ pub extern "C" fn gp_fresh(table: &[u32], room: &mut [u64]) -> Answer
 pub extern "C" fn gp_well(state: &[u64]) -> Answer
     ensures { result ≡ numbered (saved_answer state.now) }
 {
-    let answer = if dispatch::well::is_well(state) {
-        Ok(())
-    } else {
-        Err(Refusal::State)
-    };
-    answer.into()
+    dispatch::well::is_well(state)
+        .then_some(())
+        .ok_or(Refusal::State)
+        .into()
 }
 
 // One tick of a saved state.

@@ -15,7 +15,8 @@ use numbers::{number_at, numbers_of};
 use std::io;
 use std::io::{Read, Write};
 
-// One case. A number that is no operation's is answered by itself alone.
+// One case. A number that is no operation's is answered by itself alone. A match, since a table of functions would not show each operation's
+// number beside it.
 fn answer<W: Write>(out: &mut W, case: &[u64]) -> io::Result<()> {
     let operation = number_at(case, 0);
     write!(out, "{operation}")?;

@@ -7,7 +7,7 @@ fn with_digit(number: u64, digit: u8) -> u64 {
     number.wrapping_mul(10).wrapping_add(digit as u64)
 }
 
-// The numbers of a line, laid into a room: how many there are.
+// The numbers of a line, laid into a room: how many there are. The count goes up where a number ends, not with each byte.
 pub(crate) fn numbers_of(line: &[u8], room: &mut [u64]) -> usize
     ensures { result ≤ length room.new }
 {

@@ -50,19 +50,11 @@ where
     })
 }
 
-fn well(state: &[u64]) -> Result<(), Refusal> {
-    if is_well(state) {
-        Ok(())
-    } else {
-        Err(Refusal::State)
-    }
-}
-
 // `6 length n place value more words`: fresh, n ticks, the word at the place changed, well formed or not, a tick, more ticks; an answer of
 // each but the change, and the state.
 pub(crate) fn damaged<W: Write>(out: &mut W, case: &[u64]) -> io::Result<()> {
     over_damaged(out, case, numbers_from(case, 6), |out, state| {
-        show::done(out, well(state))?;
+        show::done(out, is_well(state).then_some(()).ok_or(Refusal::State))?;
         show::done(out, tick_words(state))?;
         show::done(out, run_words(state, low_at(case, 5)))?;
         show::state(out, state)
