@@ -153,7 +153,7 @@ module _ {tasks : List Task} {i t best : ℕ} (s : Walked tasks i t best) where
           started = omega arith;
           no_more = n;
           passed = λ u a k q. elim (dec_lt u t) [
-            yes before ↦ omega (arith, s.passed u a before q)
+            | yes before ↦ omega (arith, s.passed u a before q)
             | no after ↦ omega (arith, above_mono tasks w i h t u (omega arith))
           ];
         }
