@@ -1,7 +1,7 @@
 -- What is printed, by its cases, and that the numbers in it are small.
 use mathlib.Core.List.{List, [], ◌∷◌, ◌++◌}
 use mathlib.Core.Path.{◌≡◌, refl, sym, ap, ◌∙◌}
-use Prim.Native.Nat.{ℕ, zero, suc, ◌+◌, ◌-◌, ◌*◌, ◌≤◌}
+use Prim.Native.Nat.{ℕ, zero, suc, ◌+◌, ◌-◌, ◌*◌, ◌≤◌, ◌<◌}
 use native.Mathlib.Omega.{arith}
 use lib.ListN.{length, take, drop, length-append}
 use Rattle.law.specs.Refusal.{Answer, accepted, refused, head}
@@ -17,7 +17,7 @@ use Rattle.law.proofs.Lists.{take_drop}
 use Rattle.law.proofs.Table.{table_length}
 use Rattle.law.proofs.TextLine.{reached}
 use Rattle.law.proofs.TextDecimal.{decimal_ten}
-use Rattle.law.proofs.TextAnswers.{read_says, put_accepted, put_says, put_filled}
+use Rattle.law.proofs.TextAnswers.{read_says, put_short, put_accepted, put_says, put_filled, put_kept}
 use Rattle.law.proofs.TextReach.{line_reach, line_short, read_short_text, words_short}
 use Rattle.law.proofs.TextTrips.{read_write}
 
@@ -137,6 +137,10 @@ printed_most input = by (line_at input 0 ticks_key)
 
 -- the printing program as a function, by its cases
 module _ (input room : List ℕ) where
+  pub report_short : length room < length (printed input) → (report_answer input (length room) ≡ refused 13 []) × (report_room input room ≡ room)
+  unfolding report_answer report_room
+  report_short h = let e = put_short (printed input) (length room) h in (e, put_kept (printed input) room e)
+
   pub report_accepted : length (printed input) ≤ length room
       → (report_answer input (length room) ≡ accepted (length (printed input) ∷ [])) × (report_room input room ≡ printed input ++ drop (length (printed input)) room)
   unfolding report_answer report_room

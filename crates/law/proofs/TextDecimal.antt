@@ -110,6 +110,17 @@ pub decimal_longest : (m v : ℕ) → v < 10 ^ suc m → length (decimal v) ≤ 
 unfolding decimal
 decimal_longest m v h = digits_most 10 m v h
 
+pub digits_shortest : (n v : ℕ) → 1 ≤ length (decimal_of (suc n) v)
+digits_shortest n v =
+    elim (dec_lt v 10) [
+      | yes l ↦ omega (arith, length_one n v l)
+      | no l ↦ omega (arith, length_more n v (omega arith))
+    ]
+
+pub decimal_shortest : (v : ℕ) → 1 ≤ length (decimal v)
+unfolding decimal
+decimal_shortest v = digits_shortest 9 v
+
 -- all of them digits
 pub digit_low : (b : ℕ) → is_digit b ≡ true → 48 ≤ b
 unfolding is_digit

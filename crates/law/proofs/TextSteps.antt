@@ -2,17 +2,19 @@
 use mathlib.Core.Bool.{true}
 use mathlib.Core.List.{List, [], ◌∷◌, ◌++◌, append_assoc, append-nil}
 use mathlib.Core.Path.{◌≡◌, refl, sym, ap, ◌∙◌}
-use Prim.Native.Nat.{ℕ, zero, suc, ◌+◌, ◌-◌, ◌≤◌, ◌<◌}
+use Prim.Native.Nat.{ℕ, zero, suc, ◌+◌, ◌-◌, ◌*◌, ◌^◌, ◌≤◌, ◌<◌}
+use native.Mathlib.Nat.{add-zero, pow-le-pow_right}
 use native.Mathlib.Omega.{arith}
 use lib.Dec.{ltb}
-use lib.ListN.{length, take, drop}
-use borrow.Author.Tests.{lt-ltb, le-ltb, eq-eqb, ne_eqb}
-use Rattle.law.specs.Refusal.{head}
-use Rattle.law.specs.Text.{keys_of, is_digit, number_of}
+use lib.ListN.{length, get_or, take, drop, length-drop}
+use lib.Seq.{take-suc, get_or-drop}
+use borrow.Author.Tests.{eqb-true, lt-ltb, le-ltb, eq-eqb, ne_eqb}
+use Rattle.law.specs.Refusal.{head, within}
+use Rattle.law.specs.Text.{keys_of, is_digit, number_from, number_of}
 use Rattle.law.specs.Reading.{Found, found, fault, byte_at, value_length, value_of_length, value_at, line_at, behind, onward, lines_at}
 use Rattle.law.proofs.Tests.{both_true, both_fail}
-use Rattle.law.proofs.TextDecimal.{digit_high, number_most}
-use Rattle.law.proofs.TextLine.{inside, digits_high, naught, digit, neither, start, value_inside, line_sound}
+use Rattle.law.proofs.TextDecimal.{digit_high, number_last, number_most}
+use Rattle.law.proofs.TextLine.{inside, digits_high, digits_are, naught, digit, neither, start, value_inside, line_sound}
 use Rattle.law.proofs.TextLines.{came, fell, outcome, lines_on, lines_off, lines_none, lines_sound}
 
 -- ---- a value, digit by digit
@@ -20,13 +22,35 @@ use Rattle.law.proofs.TextLines.{came, fell, outcome, lines_on, lines_off, lines
 pub digit_inside : (text : List ℕ) (i : ℕ) → is_digit (byte_at text i) ≡ true → i < length text
 digit_inside text i e = inside text i (omega (arith, digit_high (byte_at text i) e))
 
+nought_digit : (b : ℕ) → b ≡ 48 → is_digit b ≡ true
+unfolding is_digit within
+nought_digit b e = rw e
+
 module _ (text : List ℕ) (at : ℕ) where
+  digit_here : (i j : ℕ) → i ≡ j → is_digit (byte_at text j) ≡ true → is_digit (byte_at text i) ≡ true
+  digit_here i j e d = ap (λ (z : ℕ). is_digit (byte_at text z)) e ∙ d
+
   pub value_most : value_length text at ≤ 5
   value_most =
       elim (start text at) [
         | naught e n ↦ omega arith
         | digit e f n ↦ omega (arith, digits_high text (suc at))
         | neither e f n ↦ omega arith
+      ]
+
+  -- all the bytes of a value are digits
+  pub value_digit : (i : ℕ) → i < value_length text at → is_digit (byte_at text (at + i)) ≡ true
+  value_digit zero h =
+      elim (start text at) [
+        | naught e n ↦ digit_here (at + 0) at (add-zero at) (nought_digit _ (eqb-true _ 48 e))
+        | digit e f n ↦ digit_here (at + 0) at (add-zero at) f
+        | neither e f n ↦ absurd (omega arith)
+      ]
+  value_digit (suc i) h =
+      elim (start text at) [
+        | naught e n ↦ absurd (omega arith)
+        | digit e f n ↦ digit_here (at + suc i) (suc at + i) (omega arith) (digits_are text (suc at) i (omega arith))
+        | neither e f n ↦ absurd (omega arith)
       ]
 
   -- it ends in the text
@@ -36,6 +60,26 @@ module _ (text : List ℕ) (at : ℕ) where
       by : (n : ℕ) → value_length text at ≡ n → at + value_length text at ≤ length text
       by zero e = omega arith
       by (suc n) e = value_inside text at (omega arith)
+
+  pub number_next : (i : ℕ) → at + i < length text
+      → number_of (take (suc i) (drop at text)) ≡ number_of (take i (drop at text)) * 10 + (byte_at text (at + i) - 48)
+  number_next i h =
+      ap (number_from 0) (take-suc (drop at text) i 256 (omega (arith, length-drop at text)))
+      ∙ number_last 0 (take i (drop at text)) (get_or (drop at text) i 256)
+      ∙ ap (λ (z : ℕ). number_of (take i (drop at text)) * 10 + (z - 48)) (get_or-drop at text i 256)
+
+  number_powers : (i : ℕ) → i ≤ value_length text at → number_of (take i (drop at text)) < 10 ^ i
+  unfolding number_from
+  number_powers zero h = omega arith
+  number_powers (suc i) h =
+      let d = value_digit i (omega arith) in
+      omega (arith, number_powers i (omega arith), number_next i (digit_inside text (at + i) d), digit_high (byte_at text (at + i)) d)
+
+  -- the number of its digits so far, five at most, is below 100000
+  pub number_small : (i : ℕ) → i ≤ value_length text at → number_of (take i (drop at text)) ≤ 99999
+  number_small i h =
+      let five : i ≤ 5 = omega (arith, value_most) in
+      omega (arith, number_powers i h, pow-le-pow_right {n = 10} (omega arith) five)
 
 -- a value by its ways out, n being its length
 module _ (text : List ℕ) (at n : ℕ) (long : n ≡ value_length text at) where

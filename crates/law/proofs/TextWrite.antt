@@ -1,14 +1,48 @@
--- Writing a task text: the lines one after the other.
-use mathlib.Core.List.{List, [], ◌∷◌, ◌++◌, map, append_assoc}
+-- Writing a task text: a number's digits from the last to the first, and the lines one after the other.
+use mathlib.Core.List.{List, [], ◌∷◌, ◌++◌, map, append_assoc, append-nil}
 use mathlib.Core.Path.{◌≡◌, refl, sym, ap, ◌∙◌}
-use Prim.Native.Nat.{ℕ, zero, suc, ◌+◌, ◌-◌, ◌*◌, ◌/◌, ◌%◌, ◌≤◌, ◌<◌}
+use Prim.Native.Nat.{ℕ, zero, suc, ◌+◌, ◌-◌, ◌*◌, ◌/◌, ◌%◌, ◌^◌, ◌≤◌, ◌<◌}
 use native.Mathlib.Decide.{dec_lt}
 use native.Mathlib.Nat.{suc-mul, mod-eq_of_lt, mod-eq-sub-mod, div-eq_of_eq-mul_left}
 use native.Mathlib.Omega.{arith}
 use lib.ListN.{length, get_or, take, drop, length-append, length-map, take-append-drop, get_or-append, get_or-map}
 use lib.Seq.{take-suc, take_all, length-take-le, get_or-append-add}
 use Rattle.law.specs.Text.{rows_key, keys_of, lines}
-use Rattle.law.specs.Reading.{decimal, text_of}
+use Rattle.law.specs.Reading.{decimal_of, decimal, text_of}
+use Rattle.law.proofs.TextDecimal.{decimal_one, decimal_more, digits_shortest}
+
+-- What is left of a number whose last digits are known: as many digits of `rest` as may still come make it whole.
+pub record Left (v rest : ℕ) (digits : List ℕ) : Type 0 where
+  pub more : ℕ
+  pub small : rest < 10 ^ suc more
+  pub same : decimal_of (suc more) rest ++ digits ≡ decimal v
+
+pub left_start : (v : ℕ) → v ≤ 4294967295 → Left v v []
+unfolding decimal
+left_start v h = record { more = 9; small = omega arith; same = append-nil (decimal_of 10 v) }
+
+pub left_next : (v rest : ℕ) (digits : List ℕ) → Left v rest digits → 10 ≤ rest → Left v (rest / 10) ((48 + rest % 10) ∷ digits)
+left_next v rest digits l h = by l.more l.small l.same
+  where
+    by : (more : ℕ) → rest < 10 ^ suc more → decimal_of (suc more) rest ++ digits ≡ decimal v
+        → Left v (rest / 10) ((48 + rest % 10) ∷ digits)
+    by zero s e = absurd (omega arith)
+    by (suc more) s e =
+        record {
+          more = more;
+          small = omega arith;
+          same = sym (append_assoc (decimal_of (suc more) (rest / 10)) ((48 + rest % 10) ∷ []) digits)
+              ∙ ap (λ (z : List ℕ). z ++ digits) (sym (decimal_more (suc more) rest h)) ∙ e;
+        }
+
+pub left_last : (v rest : ℕ) (digits : List ℕ) → Left v rest digits → rest < 10 → (48 + rest) ∷ digits ≡ decimal v
+left_last v rest digits l h =
+    ap (λ (z : List ℕ). z ++ digits) (sym (decimal_one l.more rest h)) ∙ l.same
+
+-- at least one digit is still to come
+pub left_fits : (v rest : ℕ) (digits : List ℕ) → Left v rest digits → length digits < length (decimal v)
+left_fits v rest digits l =
+    omega (arith, ap length l.same, length-append (decimal_of (suc l.more) rest) digits, digits_shortest l.more rest)
 
 -- lines: those of two runs of keys and values are the one's behind the other's
 pub lines_append : (keys values keys' values' : List (List ℕ)) → length keys ≡ length values
