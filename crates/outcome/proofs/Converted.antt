@@ -7,10 +7,14 @@ use Rattle.refusal.specs.Shown.{answered}
 use Rattle.outcome.specs.Tells.{Tells}
 use Rattle.outcome.specs.Converts.{Converts, Answers}
 
-module _ {F : Type 0} (g : Once F (Bor (List ℕ) × (MutBor (List ℕ) × Unit {0})) (Result ℕ Refusal × (MutBor (List ℕ) × Unit {0}))) (f : F) where
-  pub converted : {E : Type 0} (w : Result (Unit {0}) E) (known : Option (List ℕ)) (text room left : List ℕ) (answer : Result ℕ Refusal)
-      (out out' error error' : Option (List ℕ)) (size : ℕ) → size ≡ 2048 → IfSome known (λ bytes. text ≡ take size bytes)
-      → Answers g f text room answer left → OnOk w (Tells (answered answer) left out out' error error') → OnOk w (Converts g f known room out out' error error')
+module _ {F : Type 0}
+    (g : Once F (Bor (List ℕ) × (MutBor (List ℕ) × Unit {0})) (Result ℕ Refusal × (MutBor (List ℕ) × Unit {0})))
+    (f : F) where
+  pub converted : {E : Type 0} (w : Result (Unit {0}) E) (known : Option (List ℕ)) (text room left : List ℕ)
+      (answer : Result ℕ Refusal) (out out' error error' : Option (List ℕ)) (size : ℕ) → size ≡ 2048
+      → IfSome known (λ bytes. text ≡ take size bytes) → Answers g f text room answer left
+      → OnOk w (Tells (answered answer) left out out' error error')
+      → OnOk w (Converts g f known room out out' error error')
   converted (Ok x) known text room left answer out out' error error' size long first is told =
       record {
         text = text;

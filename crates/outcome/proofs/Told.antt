@@ -30,9 +30,10 @@ pub said : (r : Refusal) → refusal_printed (number_of r) (placed 0 (number_of 
 said r = ap (refusal_printed (number_of r)) (placed_zero (number_of r) (also_of r))
 
 -- what a conversion answers can be told: the text that it put lies within the room
-pub tellable : (a : Result ℕ Refusal) (first : Answer) (text left : List ℕ) (room : ℕ) → answered a ≡ after first (put_answer text room)
-    → length left ≡ room → also_in (after first (put_answer text room)) ≤ 1836 → Tellable a left
+pub tellable : (a : Result ℕ Refusal) (first : Answer) (text left : List ℕ) (room : ℕ)
+    → answered a ≡ after first (put_answer text room) → length left ≡ room → also_in (after first (put_answer text room)) ≤ 1836 → Tellable a left
 tellable (Ok n) first text left room e long small =
     let p = put_says text room (after_accepted first _ _ (sym e)).2 in
     record { small = omega arith; fits = omega (arith, p.0, ap head p.1, long) }
-tellable (Err r) first text left room e long small = record { small = omega (arith, small, ap also_in e); fits = omega arith }
+tellable (Err r) first text left room e long small =
+    record { small = omega (arith, small, ap also_in e); fits = omega arith }

@@ -17,9 +17,13 @@ told (Ok x) (Some bytes) old new seen put size long first is wrote =
 told (Err e) known old new seen put size long first is wrote = tt
 
 -- the room takes all that is printed
-module _ (input room : List ℕ) (size : length room ≡ 5632) (r : Result ℕ Refusal) (answer : answered r ≡ report_answer input (length room)) where
+module _ (input room : List ℕ) (size : length room ≡ 5632) (r : Result ℕ Refusal)
+    (answer : answered r ≡ report_answer input (length room)) where
+  enough : length (printed input) ≤ length room
+  enough = omega (arith, printed_most input, size)
+
   accepts : answered r ≡ accepted (length (printed input) ∷ [])
-  accepts = answer ∙ (report_accepted input room (omega (arith, printed_most input, size))).0
+  accepts = answer ∙ (report_accepted input room enough).0
 
   pub has_room : IsOk r
   has_room = by r accepts
@@ -31,6 +35,8 @@ module _ (input room : List ℕ) (size : length room ≡ 5632) (r : Result ℕ R
   pub put_length : (m : ℕ) → r ≡ Ok m → m ≡ length (printed input)
   put_length m is = ap (λ (s : Result ℕ Refusal). value_of (answered s)) (sym is) ∙ ap value_of accepts
 
-  pub put_whole : (new : List ℕ) (m : ℕ) → r ≡ Ok m → new ≡ report_room input room → take m new ≡ printed input
+  pub put_whole : (new : List ℕ) (m : ℕ) → r ≡ Ok m → new ≡ report_room input room
+      → take m new ≡ printed input
   put_whole new m is e =
-      ap₂ take (put_length m is) (e ∙ (report_accepted input room (omega (arith, printed_most input, size))).1) ∙ take-append_seam (printed input) (drop (length (printed input)) room)
+      ap₂ take (put_length m is) (e ∙ (report_accepted input room enough).1)
+      ∙ take-append_seam (printed input) (drop (length (printed input)) room)
