@@ -42,15 +42,15 @@ impl<const N: usize> Page<N> {
         &self.bytes[..self.len]
     }
 
-    // A run of bytes more.
+    // A run of bytes more, byte by byte: `copy_from_slice` asks for memmove here, which the archive's header does not list, and is no faster on
+    // runs as short as these.
     pub fn put(&mut self, part: &[u8])
         requires { length self.old + length part.now ≤ N }
         ensures { self.new ≡ self.old ++ part.now }
     {
-        let end = self.len + part.len();
-        let bytes = &mut self.bytes[..];
-        bytes[self.len..end].copy_from_slice(part);
-        self.len = end;
+        for byte in part {
+            self.push(*byte);
+        }
     }
 
     // One byte more.
