@@ -1,7 +1,9 @@
+-- So many bytes of the part stand behind what stood on the page.
 use mathlib.Core.List.{◌++◌}
 use mathlib.Core.Path.{◌≡◌}
+use Prim.Native.Nat.{◌+◌}
 use lib.ListN.{take}
 use Rattle.line.proofs.page.Page.put.Given as goal
 
-abbrev pub invariant-loop-byte : goal.invariant-loop-byte
-invariant-loop-byte g l = l.self ≡ l.initial.self ++ take l.byte-index l.part
+abbrev pub invariant-loop-i : goal.invariant-loop-i
+invariant-loop-i g l = take (l.start + l.i) l.bytes ≡ take l.start l.initial.bytes ++ take l.i l.part
