@@ -11,7 +11,7 @@ use borrow.Rule.Slice.PartMut.{mid_of, put_mid, same_len_mid}
 use Rattle.std.specs.Prelude.{Result, Ok, Err}
 use Rattle.std.specs.Result.{IsErr}
 use Rattle.line.specs.declared.read.Fault.{Fault}
-use Rattle.text.specs.Said.{ended}
+use Rattle.text.specs.Said.{told}
 use Rattle.law.specs.Text.{row_keys, keys_of}
 use Rattle.law.specs.Reading.{found, fault, line_at, lines_at}
 use Rattle.law.proofs.TextSteps.{ReadSo, so_next, so_fault, so_more, so_broken, so_all, keys_more}
@@ -109,6 +109,6 @@ module _ {text : List ℕ} {from rows width : ℕ} {words : List ℕ} {at i : �
       sym (so_all (rw (none, no_keys (take width row_keys), h) at r.so))
 
 -- the way out of a `?`
-pub ended_err : (r : Result Unit Fault) (values : List ℕ) (next : ℕ) → IsErr r → ended r values next ≡ fault next
-ended_err (Ok u) values next h = cc h
-ended_err (Err f) values next h = refl
+pub told_err : (r : Result Unit Fault) (values : List ℕ) (next : ℕ) → IsErr r → told r values next ≡ fault next
+told_err (Ok u) values next h = cc h
+told_err (Err f) values next h = refl

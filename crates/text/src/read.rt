@@ -4,7 +4,7 @@ ghost use Rattle.std.specs.Prelude.{◌≡◌, ◌≤◌, ◌<◌, ◌*◌, leng
 ghost use Rattle.law.specs.Text.{row_keys, keys_of};
 ghost use Rattle.law.specs.Reading.{lines_at, rows_at, words_read, text_answer, read_answer, read_room};
 ghost use Rattle.refusal.specs.Shown.{answered};
-ghost use Rattle.text.specs.Said.{ended, stood};
+ghost use Rattle.text.specs.Said.{stood, told};
 
 use crate::reader::Reader;
 use line::read::Fault;
@@ -14,7 +14,7 @@ use table::{WIDTH, check, lay};
 // The lines of a row of that many, as its words; the reader then stands behind them, or at the fault.
 fn row_at(reader: &mut Reader, row: &mut [u32]) -> Result<(), Fault>
     requires { length row.old ≤ 7 }
-    ensures read { ended result row.new reader.new.at ≡ lines_at reader.old.text.now reader.old.at (take (length row.old) row_keys) }
+    ensures read { told result row.new reader.new.at ≡ lines_at reader.old.text.now reader.old.at (take (length row.old) row_keys) }
     ensures stops { IfErr result (λ f. f.place ≡ reader.new.at) }
     ensures text { reader.new.text ≡ reader.old.text }
     ensures length { length row.new ≡ length row.old }
@@ -36,7 +36,7 @@ fn rows_at(
     width: usize,
 ) -> Result<(), Fault>
     requires { (length words.old ≡ 224) × (rows ≤ 32) × (width ≤ 7) }
-    ensures read { ended result (take (rows * width) words.new) reader.new.at ≡ lines_at reader.old.text.now reader.old.at (keys_of (take width row_keys) rows) }
+    ensures read { told result (take (rows * width) words.new) reader.new.at ≡ lines_at reader.old.text.now reader.old.at (keys_of (take width row_keys) rows) }
     ensures stops { IfErr result (λ f. f.place ≡ reader.new.at) }
     ensures text { reader.new.text ≡ reader.old.text }
     ensures length { length words.new ≡ 224 }
@@ -55,7 +55,7 @@ fn rows_to_end(
     width: usize,
 ) -> Result<(), Fault>
     requires { (length words.old ≡ 224) × (rows ≤ 32) × (width ≤ 7) }
-    ensures read { ended result (take (rows * width) words.new) reader.new.at ≡ rows_at (take width row_keys) reader.old.text.now reader.old.at rows }
+    ensures read { told result (take (rows * width) words.new) reader.new.at ≡ rows_at (take width row_keys) reader.old.text.now reader.old.at rows }
     ensures stops { IfErr result (λ f. f.place ≡ reader.new.at) }
     ensures length { length words.new ≡ 224 }
 {

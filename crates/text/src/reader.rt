@@ -3,7 +3,7 @@ ghost use Rattle.std.specs.Prelude.{[], ◌≡◌, ◌≤◌, ◌<◌, length, g
 ghost use Rattle.law.specs.Text.{row_keys};
 ghost use Rattle.law.specs.Reading.{line_at};
 ghost use Rattle.line.specs.Said.{said, place_of};
-ghost use Rattle.text.specs.Said.{told};
+ghost use Rattle.text.specs.Said.{value_told};
 
 use line::read::{Fault, Line, due_at, line_at};
 
@@ -18,7 +18,7 @@ pub(crate) struct Reader<'a> {
 impl<'a> Reader<'a> {
     // The value of a key's line at the reader's place. The place moves behind the line, or to the fault.
     pub(crate) fn value_of(&mut self, key: &[u8]) -> Result<u64, Fault>
-        ensures value { told result self.new.at ≡ line_at self.old.text.now self.old.at key.now }
+        ensures value { value_told result self.new.at ≡ line_at self.old.text.now self.old.at key.now }
         ensures stops { IfErr result (λ f. f.place ≡ self.new.at) }
         ensures text { self.new.text ≡ self.old.text }
     {
@@ -28,7 +28,7 @@ impl<'a> Reader<'a> {
     // The same of the line that is due, j being its number within its row.
     pub(crate) fn next_value(&mut self, j: usize) -> Result<u64, Fault>
         requires { j < 7 }
-        ensures value { told result self.new.at ≡ line_at self.old.text.now self.old.at (get_or row_keys j []) }
+        ensures value { value_told result self.new.at ≡ line_at self.old.text.now self.old.at (get_or row_keys j []) }
         ensures stops { IfErr result (λ f. f.place ≡ self.new.at) }
         ensures text { self.new.text ≡ self.old.text }
     {
@@ -38,7 +38,7 @@ impl<'a> Reader<'a> {
     // What a line said, and the place moved.
     fn taken(&mut self, answer: Result<Line, Fault>) -> Result<u64, Fault>
         requires { place_of answer ≤ length self.old.text.now }
-        ensures value { told result self.new.at ≡ said answer }
+        ensures value { value_told result self.new.at ≡ said answer }
         ensures stops { IfErr result (λ f. f.place ≡ self.new.at) }
         ensures text { self.new.text ≡ self.old.text }
     {

@@ -1,12 +1,12 @@
 use mathlib.Core.Path.{◌∙◌}
 use native.Mathlib.Omega.{arith}
-use Rattle.text.proofs.Readings.{rows_next, rows_fault, rows_done, ended_err}
+use Rattle.text.proofs.Readings.{rows_next, rows_fault, rows_done, told_err}
 use Rattle.text.proofs.read.rows_at.Goals as goal
 
 pub returns-in_err-row_at-clause-read : goal.returns-in_err-row_at-clause-read
 returns-in_err-row_at-clause-read c =
     let l = c.loop-i.invariant in
-    ended_err _ _ _ c.from_residual.ensures.0 ∙ rows_fault l.1 c.loop-i-test.true (rw l.0 at c.in_err-row_at.ensures.read)
+    told_err _ _ _ c.from_residual.ensures.0 ∙ rows_fault l.1 c.loop-i-test.true (rw l.0 at c.in_err-row_at.ensures.read)
 
 pub loop-i-preserved : goal.loop-i-preserved
 loop-i-preserved c =

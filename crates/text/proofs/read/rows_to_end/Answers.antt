@@ -1,11 +1,11 @@
 use mathlib.Core.Path.{sym, ◌∙◌}
 use Rattle.law.proofs.TextPlace.{rows_cut, rows_end, rows_more}
-use Rattle.text.proofs.Readings.{ended_err}
+use Rattle.text.proofs.Readings.{told_err}
 use Rattle.text.proofs.read.rows_to_end.Goals as goal
 
 pub returns-in_err-rows_at-clause-read : goal.returns-in_err-rows_at-clause-read
 returns-in_err-rows_at-clause-read c =
-    ended_err _ _ _ c.from_residual.ensures.0 ∙ sym (rows_cut _ _ _ _ _ (sym c.in_err-rows_at.ensures.read))
+    told_err _ _ _ c.from_residual.ensures.0 ∙ sym (rows_cut _ _ _ _ _ (sym c.in_err-rows_at.ensures.read))
 
 pub returns-then-reader-clause-read : goal.returns-then-reader-clause-read
 returns-then-reader-clause-read c =
