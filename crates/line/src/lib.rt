@@ -1,4 +1,4 @@
-// One line of a task text: read at a place, and put at a place; and the lines of a refusal.
+// One line of a task text, read at a place; a page of lines; and the lines of a refusal.
 #![tactic(auto)]
 
 mod key;
