@@ -2,6 +2,7 @@
 #![tactic(auto)]
 
 ghost use Rattle.std.specs.Prelude.{◌≡◌, ◌-◌, ◌<◌, ◌≤◌, ◌^◌};
+ghost use Rattle.law.specs.Sums.{bit};
 ghost use Rattle.law.specs.Tick.{shifted, marks, spare as spare_law};
 
 use book::Pair;
@@ -22,12 +23,12 @@ pub struct Tally {
 
 // The window of k marks after one more: the newest is bit 0, the mark that reaches bit k is cut.
 #[tactic(auto, using(law::proofs::Window::shift_is))]
-fn shift(window: u64, mark: u64, k: u64) -> u64
-    requires { (1 ≤ k) × (k ≤ 64) × (mark ≤ 1) }
-    ensures { result ≡ shifted k window mark }
+fn shift(window: u64, met: bool, k: u64) -> u64
+    requires { (1 ≤ k) × (k ≤ 64) }
+    ensures { result ≡ shifted k window (bit met) }
 {
     let cut = 0xffff_ffff_ffff_ffff >> (64 - k);
-    (window << 1 | mark) & cut
+    (window << 1 | u64::from(met)) & cut
 }
 
 // The met marks of a window, counted: for a tally that comes from outside. Settling amends the number that is kept.
@@ -42,12 +43,12 @@ pub fn marks_in(window: u64, k: u64) -> u64
 // The number of met marks after one more mark: the mark that comes in is added, and the mark that is cut, bit k - 1,
 // is taken off. In this order the difference is never below 0.
 #[tactic(auto, using(law::proofs::Window::marks_most, law::proofs::Window::marks_amended))]
-fn amend(held: u64, window: u64, mark: u64, k: u64) -> u64
-    requires { (1 ≤ k) × (k ≤ 64) × (mark ≤ 1) × (held ≡ marks k window) }
-    ensures { result ≡ marks k (shifted k window mark) }
+fn amend(held: u64, window: u64, met: bool, k: u64) -> u64
+    requires { (1 ≤ k) × (k ≤ 64) × (held ≡ marks k window) }
+    ensures { result ≡ marks k (shifted k window (bit met)) }
 {
     let cut = window >> (k - 1) & 1;
-    held + mark - cut
+    held + u64::from(met) - cut
 }
 
 // How many further misses in a row the task can bear. From the newest mark on, marks are taken in until m of them are
@@ -67,7 +68,6 @@ pub fn spare(window: u64, m: u64, k: u64) -> u64
 }
 
 impl Tally {
-    ghost use Rattle.law.specs.Sums.{bit};
     ghost use Rattle.law.specs.Tick.{settled};
     ghost use Rattle.tally.specs.Said.{tally_said, Countable};
 
@@ -78,9 +78,8 @@ impl Tally {
         requires { Countable pair.k (tally_said self) }
         ensures { tally_said result ≡ settled pair.m pair.k kind (bit met) (tally_said self) }
     {
-        let mark = u64::from(met);
-        let window = shift(self.window, mark, pair.k);
-        let held = amend(self.held, self.window, mark, pair.k);
+        let window = shift(self.window, met, pair.k);
+        let held = amend(self.held, self.window, met, pair.k);
         Tally {
             window,
             released: self.released,
