@@ -1,8 +1,5 @@
-use Rattle.carry.proofs.Laying.{said_start, said_next, said_not, said_all}
+use Rattle.carry.proofs.Laying.{said_next, said_not, said_all}
 use Rattle.carry.proofs.check_old.Goals as goal
-
-pub loop-i-init : goal.loop-i-init
-loop-i-init c = said_start _
 
 pub returns-then-task_at-eq1 : goal.returns-then-task_at-eq1
 returns-then-task_at-eq1 c = said_not c.loop-i.invariant c.loop-i-test.true c.task_at.ensures c.if-task_at-eq1.true

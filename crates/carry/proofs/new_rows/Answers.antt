@@ -38,11 +38,6 @@ trip c = (lines_trip old_keys (omega arith) (text c) (rows c ∷ []) (lines c)).
 abbrev old : In_ok-rows → List ℕ
 old c = c.rows_of.new.words
 
-words_are : (c : In_ok-rows) → take (rows c * 6) (old c) ≡ words_read old_keys (text c)
-words_are c =
-    ap (λ (r : Result ℕ Refusal). stood r 6 (old c) (words_read old_keys (text c))) (sym c.in_ok-rows.was)
-    ∙ c.rows_of.ensures.words
-
 fits : (c : In_ok-rows) → rows c * 6 ≤ length (old c)
 fits c = omega (arith, (trip c).high, c.rows_of.ensures.length)
 

@@ -6,7 +6,7 @@ use native.Mathlib.Omega.{arith}
 use lib.ListN.{length, take, replicate}
 use lib.Seq.{take_at, length-take-le}
 use Rattle.law.specs.Refusal.{accepted, head}
-use Rattle.law.specs.Table.{Task, table_of}
+use Rattle.law.specs.Table.{table_of}
 use Rattle.law.specs.Text.{row_keys}
 use Rattle.law.specs.Reading.{words_read, read_answer}
 use Rattle.law.specs.Carry.{relaid, sayable, old_words}
@@ -48,9 +48,6 @@ words_are c =
 
 fits : (c : In_ok-rows) → rows c * 7 ≤ length (laid c)
 fits c = omega (arith, few c, c.read.auto.room)
-
-abbrev table : In_ok-rows → List Task
-table c = table_of (words_read row_keys (text c))
 
 -- what the old form can say of the table
 said : (o : After-check_old) → sayable (table_of (words_read row_keys (o.args.text.now))) ≡ answered o.check_old.result

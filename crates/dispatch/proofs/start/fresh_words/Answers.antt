@@ -1,18 +1,13 @@
 -- `dispatch::start::fresh_words` meets its contract: each way out is a case of the law, and only the last one writes.
 use mathlib.Core.List.{List, [], ◌∷◌, ◌++◌}
-use mathlib.Core.Path.{◌≡◌, sym, ap, ◌∙◌}
+use mathlib.Core.Path.{sym, ap, ◌∙◌}
 use Prim.Native.Nat.{ℕ}
-use lib.ListN.{length, drop, take}
-use lib.Seq.{length-take-le}
+use lib.ListN.{drop}
 use Rattle.law.specs.Refusal.{accepted}
 use Rattle.refusal.proofs.Passed.{passed_on}
 use Rattle.dispatch.proofs.Saved.{fresh_unchecked, fresh_short, fresh_laid}
 use Rattle.dispatch.proofs.start.fresh_words.Goals.{Else-room-lt-STATE_WORDS}
 use Rattle.dispatch.proofs.start.fresh_words.Goals as goal
-
--- the part of the room that is lent
-part : (c : Else-room-lt-STATE_WORDS) → length (take 643 c.args.room.now) ≡ 643
-part c = length-take-le 643 c.args.room.now c.if-room-lt-STATE_WORDS.false
 
 pub returns-in_err-table : goal.returns-in_err-table
 returns-in_err-table c =
@@ -23,12 +18,6 @@ pub returns-then-room-lt-STATE_WORDS : goal.returns-then-room-lt-STATE_WORDS
 returns-then-room-lt-STATE_WORDS c =
     let e = fresh_short c.args.table.now c.args.room.now _ c.in_ok-table.ensures.accepted c.if-room-lt-STATE_WORDS.true in
     record { answer = sym e.0; room = sym e.1 }
-
-pub slice_bounds-lay_fresh-end-2 : goal.slice_bounds-lay_fresh-end-2
-slice_bounds-lay_fresh-end-2 c = sym (part (goal.at.slice_bounds-lay_fresh-end-2 c).Else-room-lt-STATE_WORDS)
-
-pub lay_fresh-requires : goal.lay_fresh-requires
-lay_fresh-requires c = part (goal.at.lay_fresh-requires c).Else-room-lt-STATE_WORDS
 
 pub returns : goal.returns
 returns c =

@@ -12,7 +12,7 @@ use Rattle.law.specs.Tick.{Row, no_row, fresh_row, fresh}
 use Rattle.law.specs.State.{state_of, laid, with_row}
 use Rattle.law.proofs.Sums.{map_to_none, map_from_length, map_from_at}
 use Rattle.law.proofs.Laid.{blank, blank_laid}
-use Rattle.rows.proofs.Words.{words_long, row_put}
+use Rattle.rows.proofs.Words.{row_put}
 use Rattle.tick.proofs.Loops.{Mapped, with_rows, mapped_laid, mapped_rows, mapped_next, mapped_end}
 use Rattle.dispatch.proofs.start.lay_fresh.Invariants.{fresh_at}
 use Rattle.dispatch.proofs.start.lay_fresh.Goals as goal
@@ -55,11 +55,6 @@ pub loop-i-init : goal.loop-i-init
 loop-i-init c =
     laying_start (table_of c.args.table.words.now) c.args.table.well_formed.rows_high _ _ c.rows-rows.ensures
     (c.fill.ensures.after (λ y e. e) ∙ ap (λ (z : ℕ). replicate z 0) c.requires)
-
-pub put_row-requires : goal.put_row-requires
-put_row-requires c =
-    let l = c.loop-i.invariant in
-    (words_long (mapped_laid l), omega (arith, c.args.table.well_formed.rows_high, c.rows-rows.ensures, c.loop-i-test.true))
 
 pub loop-i-preserved : goal.loop-i-preserved
 loop-i-preserved c =

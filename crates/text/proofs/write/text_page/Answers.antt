@@ -31,6 +31,3 @@ loop-word-preserved c = put_next c.loop-word.invariant c.loop-word-test.true (rw
 
 pub returns : goal.returns
 returns c = put_all c.loop-word.invariant (omega arith)
-
-pub next_line-j-requires : goal.next_line-j-requires
-next_line-j-requires c = in_width c.loop-word.invariant
