@@ -4,6 +4,7 @@
 ghost use Rattle.std.specs.Prelude.{◌≡◌, ◌+◌, ◌*◌, ◌<◌, length, get_or, set};
 ghost use Rattle.law.specs.State.{row_at, sets_from, words_of};
 ghost use Rattle.table.specs.Said.{task_said};
+ghost use Rattle.tally.specs.Said.{tally_said};
 ghost use Rattle.rows.specs.Said.{row_said};
 
 pub mod steps;
@@ -19,7 +20,7 @@ pub const STRIDE: usize = 20;
 pub const STATE_WORDS: usize = 643;
 
 // The words of a row that a tick reads or stores by themselves: ticks until the next release, the live job's work
-// left, ticks left to its deadline, and its kind.
+// left, ticks left to its deadline, and its kind. The tally begins at its window.
 pub const WAIT: usize = 7;
 
 pub const WORK: usize = 9;
@@ -27,6 +28,8 @@ pub const WORK: usize = 9;
 pub const LEFT: usize = 10;
 
 pub const KIND: usize = 11;
+
+const WINDOW: usize = 12;
 
 // A state by value: the same words that a firmware saves.
 #[derive(Clone, Copy, Debug, PartialEq, Eq)]
@@ -75,19 +78,17 @@ pub fn task_of(words: &[u64], i: usize) -> Task
     }
 }
 
-// Row i of a state's words.
+// The tally of row i, its last eight words.
 #[tactic(auto, unfolding(law::specs::State::row_of))]
-pub fn row_at(words: &[u64], i: usize) -> Row
+fn tally_of(words: &[u64], i: usize) -> Tally
     requires { (length words.now ≡ 643) × (i < 32) }
-    ensures { row_said result ≡ row_at words.now i }
+    ensures { tally_said result ≡ (row_at words.now i).tally }
 {
     let at = i * STRIDE + HEAD;
-    let &[
-        wait,
-        place,
-        work,
-        left,
-        kind,
+    let &[window, released, mm, mx, om, ox, broken, held] = &words[at + WINDOW..at + STRIDE] else {
+        unreachable!()
+    };
+    Tally {
         window,
         released,
         mm,
@@ -96,8 +97,17 @@ pub fn row_at(words: &[u64], i: usize) -> Row
         ox,
         broken,
         held,
-    ] = &words[at + WAIT..at + STRIDE]
-    else {
+    }
+}
+
+// Row i of a state's words.
+#[tactic(auto, unfolding(law::specs::State::row_of))]
+pub fn row_at(words: &[u64], i: usize) -> Row
+    requires { (length words.now ≡ 643) × (i < 32) }
+    ensures { row_said result ≡ row_at words.now i }
+{
+    let at = i * STRIDE + HEAD;
+    let &[wait, place, work, left, kind] = &words[at + WAIT..at + WINDOW] else {
         unreachable!()
     };
     Row {
@@ -107,16 +117,7 @@ pub fn row_at(words: &[u64], i: usize) -> Row
         work,
         left,
         kind,
-        tally: Tally {
-            window,
-            released,
-            mm,
-            mx,
-            om,
-            ox,
-            broken,
-            held,
-        },
+        tally: tally_of(words, i),
     }
 }
 

@@ -1,9 +1,8 @@
 // One tick over all rows of a state's words: release, choose, work and settle.
 #![tactic(auto, using(crate::proofs::Usual::usual))]
 
-ghost use Rattle.std.specs.Prelude.{◌≡◌, ◌+◌, ◌≤◌, ◌<◌, eqb, ltb, length, get_or, Some, IfSome};
+ghost use Rattle.std.specs.Prelude.{◌≡◌, ◌+◌, ◌≤◌, ◌<◌, length, get_or, Some, IfSome};
 ghost use Rattle.std.specs.Option.{is_none, unwrap_or};
-ghost use Rattle.law.specs.Sums.{both, pick};
 ghost use Rattle.law.specs.Table.{word_of};
 ghost use Rattle.law.specs.Tick.{no_row, core_at, release_row, advance_row, choose as choose_law, full_length, begin, finish as finish_law, tick as tick_law, run as run_law, clock_end};
 ghost use Rattle.law.specs.State.{state_of, laid, with_row};
@@ -12,7 +11,7 @@ ghost use Rattle.rows.specs.Said.{Timed, Laid, Held, Fetched, advanced_state, co
 pub mod patterns;
 
 use rows::steps::worked;
-use rows::{put_going, put_row, put_wait, row_at, word};
+use rows::{KIND, LEFT, WAIT, WORK, put_going, put_row, put_wait, row_at, word};
 
 // The number of rows, the first word of a state.
 pub fn rows_of(words: &[u64]) -> usize
@@ -33,12 +32,12 @@ pub fn release_row(words: &mut [u64], i: usize, pattern: u64, work: u64)
     put_row(words, i, r);
 }
 
-// Step 1 for row i: it releases where its wait, word 7 of a row, is 0; with C work, word 1.
+// Step 1 for row i: it releases where its wait is 0, with C work, word 1 of a row.
 fn release_one(words: &mut [u64], i: usize, pattern: u64)
     requires { (Laid words.old) × (i < length (state_of words.old).rows) × (Timed 0 (get_or (state_of words.old).rows i no_row)) × (pattern ≡ word_of (core_at (state_of words.old).rows i).task) }
     ensures { words.new ≡ laid (with_row (state_of words.old) i (release_row (core_at (state_of words.old).rows i).task.c (get_or (state_of words.old).rows i no_row))) }
 {
-    if word(words, i, 7) != 0 {
+    if word(words, i, WAIT) != 0 {
         return;
     }
     let work = word(words, i, 1);
@@ -57,19 +56,19 @@ fn settle_one(words: &mut [u64], i: usize, chosen: bool)
     put_row(words, i, r);
 }
 
-// Steps 3 and 4 for row i. Most rows settle nothing in most ticks: these change at most three words, 7, 9 and 10 of a row.
+// Steps 3 and 4 for row i. Most rows settle nothing in most ticks: these change at most three words.
 fn advance_one(words: &mut [u64], i: usize, chosen: bool)
     requires { (Laid words.old) × (i < length (state_of words.old).rows) × (Timed 1 (get_or (state_of words.old).rows i no_row)) }
     ensures { words.new ≡ laid (with_row (state_of words.old) i (advance_row chosen (get_or (state_of words.old).rows i no_row))) }
 {
-    let wait = word(words, i, 7) - 1;
-    let work = word(words, i, 9);
+    let wait = word(words, i, WAIT) - 1;
+    let work = word(words, i, WORK);
     if work == 0 {
         put_wait(words, i, wait);
         return;
     }
     let rest = worked(work, chosen);
-    let left = word(words, i, 10);
+    let left = word(words, i, LEFT);
     if rest == 0 || left == 1 {
         settle_one(words, i, chosen);
         return;
@@ -78,7 +77,6 @@ fn advance_one(words: &mut [u64], i: usize, chosen: bool)
 }
 
 // Step 2: the mandatory live job of the highest row; if there is none, the optional one of the highest row; if none, the tick is idle.
-// Words 9 and 11 of a row are its live job's work and kind.
 fn choose(words: &[u64]) -> Option<usize>
     requires { Laid words.now }
     ensures row { unwrap_or result (length (state_of words.now).rows) ≡ choose_law (state_of words.now).rows }
@@ -86,8 +84,8 @@ fn choose(words: &[u64]) -> Option<usize>
 {
     let mut optional = None;
     for i in 0..rows_of(words) {
-        if word(words, i, 9) > 0 {
-            if word(words, i, 11) == 1 {
+        if word(words, i, WORK) > 0 {
+            if word(words, i, KIND) == 1 {
                 return Some(i);
             }
             optional = optional.or(Some(i));
