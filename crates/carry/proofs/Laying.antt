@@ -27,10 +27,6 @@ pub record Laid (words : List ℕ) (rows from to : ℕ) (out : List ℕ) (l : �
   pub to_some : 0 < to
   pub so : take l out ≡ take l (relaid from to words)
 
-pub laid_start : {words out : List ℕ} {rows from to : ℕ} → length words ≡ rows * from → length out ≡ rows * to → 0 < from → 0 < to
-    → Laid words rows from to out 0
-laid_start w o f t = record { whole = w; long = o; from_some = f; to_some = t; so = refl }
-
 module _ {words : List ℕ} {rows from to : ℕ} {out : List ℕ} {l : ℕ} (i : Laid words rows from to out l) where
   relaid_long : length (relaid from to words) ≡ rows * to
   relaid_long = relaid_length from to words rows i.from_some i.whole
@@ -67,9 +63,6 @@ red words i = is_red (row (table_of words) i)
 -- the first i rows are not
 pub record SaidSo (words : List ℕ) (i : ℕ) : Type 0 where
   pub searched : Searched (red words) (length words / 7) i
-
-pub said_start : (words : List ℕ) → SaidSo words 0
-said_start words = record { searched = searched_start _ _ }
 
 unsaid_is : (words : List ℕ) {n : ℕ} → first (red words) (length words / 7) ≡ n → unsaid (table_of words) ≡ n
 unfolding unsaid red

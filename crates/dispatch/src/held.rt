@@ -15,7 +15,7 @@ pub fn held_words(words: &[u64], i: u32) -> Result<u64, Refusal>
     if words.len() != STATE_WORDS || !is_within(1, 32, words[0]) {
         return Err(Refusal::State);
     }
-    if words[0] <= i as u64 {
+    if words[0] <= u64::from(i) {
         return Ok(0);
     }
     Ok(word(words, i as usize, 19))

@@ -17,7 +17,7 @@ pub fn may_run(words: &[u64], n: u32) -> Result<(), Refusal>
     if !is_well(words) {
         return Err(Refusal::State);
     }
-    let asked = n as u64;
+    let asked = u64::from(n);
     if 4294967295 < words[1] + asked {
         return Err(Refusal::Clock);
     }
@@ -31,7 +31,7 @@ pub fn run_words(words: &mut [u64], n: u32) -> Result<(), Refusal>
 {
     may_run(words, n)?;
     let patterns = fetch(words);
-    ticks(words, &patterns, n as u64);
+    ticks(words, &patterns, u64::from(n));
     Ok(())
 }
 

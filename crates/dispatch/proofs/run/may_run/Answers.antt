@@ -30,8 +30,8 @@ overflow_add-words c =
 
 pub returns-then-words-asked-gt4294967295 : goal.returns-then-words-asked-gt4294967295
 returns-then-words-asked-gt4294967295 c =
-    sym (run_past c.args.words.now c.args.n (good (goal.at.returns-then-words-asked-gt4294967295 c).Else-not-is_well) c.if-words-asked-gt4294967295.true).0
+    sym (run_past c.args.words.now c.args.n (good (goal.at.returns-then-words-asked-gt4294967295 c).Else-not-is_well) (omega (arith, c.from-asked.ensures, c.if-words-asked-gt4294967295.true))).0
 
 pub returns : goal.returns
 returns c =
-    sym (run_done c.args.words.now c.args.n (good (goal.at.returns c).Else-not-is_well) c.if-words-asked-gt4294967295.false).0
+    sym (run_done c.args.words.now c.args.n (good (goal.at.returns c).Else-not-is_well) (omega (arith, c.from-asked.ensures, c.if-words-asked-gt4294967295.false))).0

@@ -38,4 +38,4 @@ pub returns : goal.returns
 returns c =
     let w = c.args.words.now in
     let good = run_well_formed w c.args.n [] (allowed (goal.at.returns c).In_ok-may_run) in
-    record { answer = sym (allowed (goal.at.returns c).In_ok-may_run); words = c.ticks.ensures ∙ sym (run_done w c.args.n good (run_early w c.args.n [] (allowed (goal.at.returns c).In_ok-may_run))).1 }
+    record { answer = sym (allowed (goal.at.returns c).In_ok-may_run); words = rw (← c.from.ensures) c.ticks.ensures ∙ sym (run_done w c.args.n good (run_early w c.args.n [] (allowed (goal.at.returns c).In_ok-may_run))).1 }
