@@ -64,7 +64,7 @@ pub fn replay_words(words: &mut [u64], n: u32, log: &[u32]) -> Result<Progress, 
     let patterns = fetch(words);
     let mut copy = [0u64; 643];
     copy.copy_from_slice(words);
-    let progress = replay_ticks(&mut copy, &patterns, n as u64, log)?;
+    let progress = replay_ticks(&mut copy, &patterns, u64::from(n), log)?;
     words.copy_from_slice(&copy);
     Ok(progress)
 }

@@ -10,17 +10,17 @@ ghost use Rattle.refusal.specs.Shown.{answered};
 ghost use Rattle.replay.specs.Shown.{under, stepped, Begun};
 
 use refusal::{Refusal, is_within};
-use rows::word;
+use rows::{WAIT, word};
 use tick::{release_row, rows_of};
 
-// How many rows release a job in the next tick: those whose wait, word 7 of a row, is 0.
+// How many rows release a job in the next tick: those whose wait is 0.
 fn due_rows(words: &[u64]) -> u64
     requires { Laid words.now }
     ensures { result ≡ releases (state_of words.now).rows (length (state_of words.now).rows) }
 {
     let mut due = 0;
     for i in 0..rows_of(words) {
-        due += u64::from(word(words, i, 7) == 0);
+        due += u64::from(word(words, i, WAIT) == 0);
     }
     due
 }
@@ -49,10 +49,10 @@ fn release_next(
     ensures next { answered result ≡ stepped (unfit log.now next (core_at (state_of words.old).rows i)) next (next + bit (due (core_at (state_of words.old).rows i))) }
     ensures words { words.new ≡ pick (unfit log.now next (core_at (state_of words.old).rows i)) words.old (laid (with_row (state_of words.old) i (release_row (get_or log.now next 0) (get_or (state_of words.old).rows i no_row)))) }
 {
-    if word(words, i, 7) != 0 {
+    if word(words, i, WAIT) != 0 {
         return Ok(next);
     }
-    let work = log[next] as u64;
+    let work = u64::from(log[next]);
     if !is_within(1, word(words, i, 1), work) {
         return Err(Refusal::Log(next as u64));
     }

@@ -31,7 +31,8 @@ told : (c : After-replay_ticks) → replayed_shown c.replay_ticks.result
     ≡ replay_told c.args.log.now c.args.n (state_of c.args.words.now)
 told c =
     let s = c.args in
-    c.replay_ticks.ensures.answer ∙ ap (λ (z : List ℕ). replay_told s.log.now s.n (state_of z)) c.copy_from_slice.ensures.after
+    c.replay_ticks.ensures.answer ∙ ap (λ (z : List ℕ). replay_told s.log.now c.from.result (state_of z)) c.copy_from_slice.ensures.after
+    ∙ ap (λ (n : ℕ). replay_told s.log.now n (state_of s.words.now)) c.from.ensures
 
 pub returns-in_err-may_run : goal.returns-in_err-may_run
 returns-in_err-may_run c =
@@ -50,7 +51,7 @@ replay_ticks-requires c =
     let w = c.args.words.now in
     let o = sym c.copy_from_slice.ensures.after in (
       subst (Held 0) o (held (goal.at.replay_ticks-requires c).In_ok-may_run),
-      subst (λ (z : List ℕ). (state_of z).time + c.args.n ≤ clock_end) o (omega (arith, time_word w, run_early w c.args.n [] (allowed (goal.at.replay_ticks-requires c).In_ok-may_run))),
+      subst (λ (z : List ℕ). (state_of z).time + c.from.result ≤ clock_end) o (omega (arith, c.from.ensures, time_word w, run_early w c.args.n [] (allowed (goal.at.replay_ticks-requires c).In_ok-may_run))),
       subst (λ (z : List ℕ). Fetched (state_of z).rows c.fetch-patterns.result) o c.fetch-patterns.ensures.0,
     )
 
@@ -67,6 +68,7 @@ returns c =
     let e = sym (told (goal.at.returns c).After-replay_ticks) ∙ shows in record {
       answer = sym (replay_told_lem s.words.now s.n s.log.now (allowed (goal.at.returns c).In_ok-may_run) ∙ e);
       words = c.copy_from_slice-2.ensures.after ∙ c.replay_ticks.ensures.words.is _ shows
-          ∙ ap (λ (z : List ℕ). laid (replayed s.log.now s.n (state_of z)).state) c.copy_from_slice.ensures.after
+          ∙ ap (λ (z : List ℕ). laid (replayed s.log.now c.from.result (state_of z)).state) c.copy_from_slice.ensures.after
+          ∙ ap (λ (n : ℕ). laid (replayed s.log.now n (state_of s.words.now)).state) c.from.ensures
           ∙ sym (replay_done s.words.now s.n s.log.now (allowed (goal.at.returns c).In_ok-may_run) _ e);
     }

@@ -25,6 +25,7 @@ ranged : (c : After-is_within) → c.is_within.result
     ≡ within 1 (core_at (state_of c.args.words.now).rows c.args.i).task.c (get_or c.args.log.now c.args.next 0)
 ranged c =
     c.is_within.ensures
+    ∙ ap (within 1 c.word-2.result) c.from-work.ensures
     ∙ ap (λ (z : ℕ). within 1 z (get_or c.args.log.now c.args.next 0)) (c_read _ _ c.requires.1 _ c.word-2.ensures)
 
 pub returns-then-word-ne0 : goal.returns-then-word-ne0
@@ -47,4 +48,4 @@ returns c =
     let core = core_at (state_of c.args.words.now).rows c.args.i in
     let now = due (goal.at.returns c).Else-word-ne0 in
     let good = unfit_due c.args.log.now c.args.next core now true (sym (ranged (goal.at.returns c).After-is_within) ∙ c.if-not-is_within.false) in
-    record { next = rw good (ap (λ (z : ℕ). accepted (z ∷ [])) (omega (arith, due_bit core now))); words = rw good c.release_row.ensures }
+    record { next = rw good (ap (λ (z : ℕ). accepted (z ∷ [])) (omega (arith, due_bit core now))); words = rw (good, ← c.from-work.ensures) c.release_row.ensures }
