@@ -30,10 +30,7 @@ pub(crate) fn enough(words: &[u64], left: usize) -> bool
     requires { Laid words.now }
     ensures { result ≡ leb (releases (state_of words.now).rows (length (state_of words.now).rows)) left }
 {
-    if rows_of(words) <= left {
-        return true;
-    }
-    due_rows(words) <= left as u64
+    rows_of(words) <= left || due_rows(words) <= left as u64
 }
 
 // Step 1 for row i with the number at the place `next`, where its wait is 0: the place of the number after those used. A number out of range is not
