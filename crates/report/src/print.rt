@@ -47,7 +47,8 @@ fn print_verdict(page: &mut Page<5632>, words: &[u32], times: &mut [u32])
     }
 }
 
-// Every row of a table and its state, from the first on.
+// Every row of a table and its state, from the first on. The response times and the rooms are two runs, as `verdict` lays
+// each into a lent one.
 fn print_rows(page: &mut Page<5632>, words: &[u32], times: &[u32], rooms: &[u32], state: &[u64])
     requires { (length page.old ≤ 224) × (Good words.now) × (Responded (table_of words.now) times.now) × (Roomed (table_of words.now) rooms.now) × (Held 0 state.now) × (tasks_of (state_of state.now).rows ≡ table_of words.now) }
     ensures { page.new ≡ page.old ++ rows_printed (table_of words.now) (state_of state.now) (length (table_of words.now)) }
@@ -58,8 +59,8 @@ fn print_rows(page: &mut Page<5632>, words: &[u32], times: &[u32], rooms: &[u32]
             page,
             i,
             task_at(words, i).id,
-            times[i] as u64,
-            rooms[i] as u64,
+            u64::from(times[i]),
+            u64::from(rooms[i]),
             c,
         );
     }
@@ -78,7 +79,7 @@ pub(crate) fn print_run(page: &mut Page<5632>, words: &[u32], ticks: u32)
     let mut state = [0u64; 643];
     let _ = fresh_words(words, &mut state);
     let _ = run_words(&mut state, ticks);
-    page.put_line(b"ticks=", ticks as u64);
+    page.put_line(b"ticks=", u64::from(ticks));
     page.put_line(b"idle=", state[2]);
     print_rows(page, words, &times, &rooms, &state);
 }

@@ -55,7 +55,7 @@ pub print_row-requires : goal.print_row-requires
 print_row-requires c =
     let r = c.requires in (
       omega (arith, c.loop-i.invariant.few, table_length c.args.words.now, good_few r.1, r.0),
-      small c.args.words.now c.args.times.now c.args.rooms.now c.args.state.now c.loop-i.i c.loop-i-test.true c.task_at.ensures c.counts_of-c.ensures r.1 r.4 r.5 (c.type_inv.times c.loop-i.i) (c.type_inv.rooms c.loop-i.i),
+      rw (c.from.ensures, c.from-in-loop-i.ensures) (small c.args.words.now c.args.times.now c.args.rooms.now c.args.state.now c.loop-i.i c.loop-i-test.true c.task_at.ensures c.counts_of-c.ensures r.1 r.4 r.5 (c.type_inv.times c.loop-i.i) (c.type_inv.rooms c.loop-i.i)),
     )
 
 pub loop-i-preserved : goal.loop-i-preserved
@@ -63,7 +63,7 @@ loop-i-preserved c =
     let r = c.requires in
     printing_next c.loop-i.invariant
     (c.print_row.ensures
-    ∙ ap (λ (z : List ℕ). c.loop-i.page ++ z) (printed c.args.words.now c.args.times.now c.args.rooms.now c.args.state.now c.loop-i.i c.loop-i-test.true c.task_at.ensures c.counts_of-c.ensures r.2 r.3))
+    ∙ ap (λ (z : List ℕ). c.loop-i.page ++ z) (rw (c.from.ensures, c.from-in-loop-i.ensures) (printed c.args.words.now c.args.times.now c.args.rooms.now c.args.state.now c.loop-i.i c.loop-i-test.true c.task_at.ensures c.counts_of-c.ensures r.2 r.3)))
 
 pub returns : goal.returns
 returns c =

@@ -17,10 +17,10 @@ pub put_line-requires : goal.put_line-requires
 put_line-requires c = (
   omega arith,
   (
-    omega (arith, c.ranges.ticks.fits),
+    omega (arith, c.from.ensures, c.ranges.ticks.fits),
     omega (
       arith,
-      line_most ticks_key c.args.ticks,
+      line_most ticks_key c.from.result,
       verdict_most (table_of c.args.words.now),
       simp length-append at (ap length c.print_verdict.ensures.bytes),
       ap length c.requires.0,
@@ -69,5 +69,5 @@ returns c =
     let t = table_of c.args.words.now in
     let early : c.args.ticks ≤ clock_end = omega (arith, c.ranges.ticks.fits) in
     let is = after_is c.requires.1 c.args.ticks early e h in
-    rw (c.print_rows.ensures, c.put_line-2.ensures.line, c.put_line.ensures.line, c.print_verdict.ensures.bytes, c.requires.0, is)
+    rw (c.print_rows.ensures, c.put_line-2.ensures.line, c.put_line.ensures.line, c.from.ensures, c.print_verdict.ensures.bytes, c.requires.0, is)
     (whole_printed t c.args.ticks (run c.args.ticks (fresh t)) (after_idle c.requires.1 c.args.ticks early e h))
