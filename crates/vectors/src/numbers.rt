@@ -4,7 +4,7 @@ ghost use Rattle.std.specs.Prelude.{◌≤◌, length};
 
 // A number with one digit more.
 fn with_digit(number: u64, digit: u8) -> u64 {
-    number.wrapping_mul(10).wrapping_add(digit as u64)
+    number.wrapping_mul(10).wrapping_add(u64::from(digit))
 }
 
 // The numbers of a line, laid into a room: how many there are. The count goes up where a number ends, not with each byte.

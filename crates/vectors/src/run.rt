@@ -20,7 +20,7 @@ where
     requires { F.IsAlwaysCallable then }
 {
     let mut table = [0u32; 256];
-    let mut state = [BEFORE as u64; 672];
+    let mut state = [u64::from(BEFORE); 672];
     let n = words_of(words, &mut table);
     let length = part_of(case, 1, &state);
     show::counted(out, fresh_words(&table[..n], &mut state[..length]))?;
@@ -65,7 +65,7 @@ pub(crate) fn damaged<W: Write>(out: &mut W, case: &[u64]) -> io::Result<()> {
 // most 16; an answer of each but the change, and every word of the room.
 pub(crate) fn counts<W: Write>(out: &mut W, case: &[u64]) -> io::Result<()> {
     over_damaged(out, case, numbers_from(case, 7), |out, state| {
-        let mut room = [BEFORE as u64; 16];
+        let mut room = [u64::from(BEFORE); 16];
         let length = part_of(case, 6, &room);
         show::done(
             out,
