@@ -14,7 +14,7 @@ use Rattle.law.specs.Sums.{pick, first}
 use Rattle.law.specs.Refusal.{accepted, refused}
 use Rattle.law.specs.Table.{Task, table_of, row, is_red, task_at}
 use Rattle.law.specs.Carry.{relaid, unsaid, sayable}
-use Rattle.law.proofs.First.{Searched, searched_start, searched_hit, searched_next, searched_end}
+use Rattle.law.proofs.First.{Searched, searched_hit, searched_next, searched_end}
 use Rattle.law.proofs.Relaid.{row_of_lem, relaid_length, relaid_at}
 use Rattle.law.proofs.Table.{table_length, table_row}
 use Rattle.law.proofs.Carry.{sayable_refused, sayable_accepted}

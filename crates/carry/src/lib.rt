@@ -89,6 +89,7 @@ fn old_rows(text: &[u8], old: &mut [u32]) -> Result<usize, Refusal>
 }
 
 // A new text whose every p is 0 as an old one, at the start of a lent room: the length of the old text. Refused: the room is as it was.
+// It stands beside `to_new`: one function over the two ways of reading would take their clauses for three lines.
 pub fn to_old(text: &[u8], room: &mut [u8]) -> Result<usize, Refusal>
     ensures answer { answered result ≡ to_old_answer text.now (length room.old) }
     ensures room { room.new ≡ to_old_room text.now room.old }

@@ -93,7 +93,8 @@ fn is_repeated(words: &[u64], rows: usize, i: usize) -> bool
     false
 }
 
-// No row of the table has a fault.
+// No row of the table has a fault. The words and their number of rows go together in three functions here, none of which
+// another module calls: a struct of the two would be made for them alone.
 fn table_clean(words: &[u64], rows: usize) -> bool
     requires { Sized words.now rows }
     ensures { result ≡ eqb (faulty (tasks_of (state_of words.now).rows)) rows }

@@ -1,4 +1,5 @@
-// One line of a task text, from a place in it: plain slices and numbers.
+// One line of a task text, from a place in it: plain slices and numbers, over which text's reader is thin, as document 01
+// names the form.
 ghost use Rattle.std.specs.Prelude.{[], ◌≡◌, ◌≤◌, ◌<◌, ◌+◌, length, get_or, true};
 ghost use Rattle.law.specs.Text.{is_digit, is_value, number_of, row_keys};
 ghost use Rattle.law.specs.Reading.{byte_at, key_length, digits_length, value_length, value_at, line_at};

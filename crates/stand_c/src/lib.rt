@@ -20,7 +20,7 @@ use refusal::Refusal;
 use replay::Progress;
 
 // Every answer: `refusal` is 0 and `value` the answer's value, or `refusal` is the number that documents 01 and 02 give
-// the refusal and `value` the row or the place that goes with it, 0 where there is none.
+// the refusal and `value` the row or the place that goes with it, 0 where there is none. C has no enum with values.
 #[repr(C)]
 #[derive(Clone, Copy)]
 pub struct Answer {

@@ -184,7 +184,8 @@ impl<'a> Table<'a> {
     }
 }
 
-// The first n words of a run, laid into the start of a lent room.
+// The first n words of a run, laid into the start of a lent room: one call of std's, under the name by which
+// docs/CONTRACTS.md speaks of it.
 pub fn lay(words: &[u32], n: usize, room: &mut [u32])
     requires { (n ≤ length words.now) × (n ≤ length room.old) }
     ensures { room.new ≡ take n words.now ++ drop n room.old }

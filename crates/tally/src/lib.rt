@@ -72,7 +72,8 @@ impl Tally {
     ghost use Rattle.tally.specs.Said.{tally_said, Countable};
 
     // The tally after a job of that kind is settled, met or missed: the window shifts, the number of its met marks is
-    // amended, one count goes up, and a window that then holds fewer than m met marks is counted as broken.
+    // amended, one count goes up, and a window that then holds fewer than m met marks is counted as broken. The kind is a
+    // number, 1 for mandatory and 0 for optional, as it stands in a saved state.
     #[tactic(auto, unfolding(law::specs::Tick::settled))]
     fn settled(self, kind: u64, met: bool, pair: Pair) -> Self
         requires { Countable pair.k (tally_said self) }

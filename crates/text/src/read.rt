@@ -1,5 +1,6 @@
-// Task text read whole: rows of so many lines, their table, and the words laid into a lent room. Each caller of the reader takes its
-// answer apart and stops at a fault.
+// Task text read whole: rows of so many lines, their table, and the words laid into a lent room. The readers of a row and of
+// a file take an answer apart by `let .. else` and stop at a fault, the form that document 01 names. The words stand at the
+// start of a run, with the number of rows beside: there is no heap.
 ghost use Rattle.std.specs.Prelude.{◌≡◌, ◌≤◌, ◌<◌, ◌*◌, length, take, IfErr};
 ghost use Rattle.law.specs.Text.{row_keys, keys_of};
 ghost use Rattle.law.specs.Reading.{lines_at, rows_at, words_read, text_answer, read_answer, read_room};

@@ -1,4 +1,6 @@
-// One tick over all rows of a state's words: release, choose, work and settle.
+// One tick over all rows of a state's words: release, choose, work and settle. The words are those that C lends, so that
+// what stands in them (`Laid`, `Held`) and the patterns that go with them (`Fetched`) are named in each contract: a struct
+// round the lent words would take a clause on them in each of its methods too.
 #![tactic(auto, using(crate::proofs::Usual::usual))]
 
 ghost use Rattle.std.specs.Prelude.{◌≡◌, ◌+◌, ◌≤◌, ◌<◌, length, get_or, Some, IfSome};

@@ -1,4 +1,5 @@
 // The program that carries a task text back: standard input to standard output, a refusal to standard error. What is written is `carry`'s.
+// It differs from `to_new` by the room and the call: a program is what its name says, so there are two.
 #![tactic(auto)]
 
 use carry::to_old;

@@ -23,7 +23,8 @@ struct Standing {
     pub until: u64,
 }
 
-// How many of a row's first q jobs an even pattern makes mandatory.
+// How many of a row's first q jobs an even pattern makes mandatory. That the row is in its ranges is asked here and by the
+// three functions below: a type for it would have the seven words of a `Task` once more.
 #[tactic(auto, unfolding(law::specs::Pattern::count, law::specs::Sums::ceil))]
 fn even_count(task: Task, q: u64) -> u64
     requires { (Ranged (task_said task)) × (q ≤ 65535) }
