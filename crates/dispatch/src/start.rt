@@ -15,6 +15,7 @@ use table::{Table, Task};
 use tally::Tally;
 
 // A row before its first job: wait and place 0, nothing live, counts 0, a window of k met marks, so k of them held.
+// Every field is written out, as document 01 lists them.
 fn fresh_row(task: Task) -> Row
     requires { Ranged (task_said task) }
     ensures { row_said result ≡ fresh_row (task_said task) }

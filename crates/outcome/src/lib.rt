@@ -30,6 +30,7 @@ fn say<E: Write>(r: Refusal, error: &mut E) -> io::Result<()>
 
 // That nothing stands on standard error tells a program's caller that all went well. So a text that could not be written whole is told there
 // too. An error is that of a write to `error`, and then nothing is known of what stands there.
+// The answer is a length beside the run, as a conversion gives it: its room is longer than what it writes.
 pub fn tell<O: Write, E: Write>(
     answer: Result<usize, Refusal>,
     text: &[u8],

@@ -21,7 +21,8 @@ pub struct Tally {
     pub held: u64,
 }
 
-// The window of k marks after one more: the newest is bit 0, the mark that reaches bit k is cut.
+// The window of k marks after one more: the newest is bit 0, the mark that reaches bit k is cut. The mask is `book::low_bits` of k written out: with
+// a call of that the proof doesn't close by `shift_is`.
 #[tactic(auto, using(law::proofs::Window::shift_is))]
 fn shift(window: u64, met: bool, k: u64) -> u64
     requires { (1 ≤ k) × (k ≤ 64) }

@@ -8,7 +8,7 @@ use line::page::Page;
 use refusal::Refusal;
 use table::{WIDTH, check};
 
-// The number within its row of the line after line j: no division a line.
+// The number within its row of the line after line j: no division a line (by a remainder the text of 32 rows took 3.3 µs for 3.1).
 fn next_line(j: usize, width: usize) -> usize
     requires { j < width }
     ensures { result ≡ (j + 1) % width }
