@@ -1,5 +1,5 @@
 // What is printed, piece by piece, put on a page that has room for every answer.
-ghost use Rattle.std.specs.Prelude.{[], ◌∷◌, ◌++◌, ◌≡◌, ◌+◌, ◌≤◌, ◌<◌, length, replicate};
+ghost use Rattle.std.specs.Prelude.{[], ◌∷◌, ◌++◌, ◌≡◌, ◌+◌, ◌≤◌, length, replicate};
 ghost use Rattle.law.specs.Table.{table_of};
 ghost use Rattle.law.specs.State.{state_of, tasks_of};
 ghost use Rattle.law.specs.Report.{printed_keys, number_lines, verdict_printed, rows_printed, run_printed};

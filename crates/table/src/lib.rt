@@ -1,7 +1,7 @@
 // A task table: a lent run of 32-bit words, seven to a row, and its checks in their order.
 #![tactic(auto)]
 
-ghost use Rattle.std.specs.Prelude.{◌≡◌, [], ◌∷◌, ◌++◌, ◌+◌, ◌*◌, ◌/◌, ◌<◌, ◌≤◌, length, get_or, take, drop, unwrap_or, IfSome, IfOk, IfErr};
+ghost use Rattle.std.specs.Prelude.{◌≡◌, [], ◌∷◌, ◌++◌, ◌+◌, ◌*◌, ◌/◌, ◌<◌, ◌≤◌, length, take, drop, unwrap_or, IfSome, IfOk, IfErr};
 ghost use Rattle.law.specs.Refusal.{accepted, refused};
 ghost use Rattle.law.specs.Table.{Ranged, WellFormed, task_at, table_of, row, repeated, RowNumber, fault_of, rows_checked, checked};
 ghost use Rattle.refusal.specs.Shown.{shown, answered};
