@@ -1,4 +1,5 @@
-// Old task files carried over, and back: a text of six lines a row into one of seven, with `p=0`, and back where every p is 0.
+// Old task files carried over, and back: a text of six lines a row into one of seven, with `p=0`, and back where every
+// p is 0.
 #![tactic(auto)]
 
 ghost use Rattle.std.specs.Prelude.{◌≡◌, ◌+◌, ◌*◌, ◌≤◌, ◌<◌, ltb, length, get_or, take};
@@ -28,7 +29,8 @@ fn word_in(words: &[u32], row: usize, width: usize, place: usize) -> u32
     }
 }
 
-// The rows of a run, laid anew with another number of words each: a word that a row has not is 0, a word too many is left out.
+// The rows of a run, laid anew with another number of words each: a word that a row has not is 0, a word too many is
+// left out.
 fn relay(words: &[u32], rows: usize, from: usize, to: usize, out: &mut [u32])
     requires { (length words.now ≡ rows * from) × (rows * to ≤ length out.old) × (0 < from) × (0 < to) }
     ensures { take (rows * to) out.new ≡ relaid from to words.now }
@@ -51,7 +53,8 @@ fn check_old(words: &[u32]) -> Result<usize, Refusal>
     Ok(rows)
 }
 
-// The table that an old text says, seven words a row from the start of `words`: the number of its rows, or why it is none.
+// The table that an old text says, seven words a row from the start of `words`: the number of its rows, or why it is
+// none.
 fn new_rows(text: &[u8], words: &mut [u32]) -> Result<usize, Refusal>
     requires { length words.old ≡ 224 }
     ensures answer { answered result ≡ new_checked text.now }
@@ -63,7 +66,8 @@ fn new_rows(text: &[u8], words: &mut [u32]) -> Result<usize, Refusal>
     check(&words[..rows * WIDTH])
 }
 
-// An old text as a new one, with `p=0` in every row, at the start of a lent room: the length of the new text. Refused: the room is as it was.
+// An old text as a new one, with `p=0` in every row, at the start of a lent room: the length of the new text. Refused:
+// the room is as it was.
 pub fn to_new(text: &[u8], room: &mut [u8]) -> Result<usize, Refusal>
     ensures answer { answered result ≡ to_new_answer text.now (length room.old) }
     ensures room { room.new ≡ to_new_room text.now room.old }
@@ -73,8 +77,8 @@ pub fn to_new(text: &[u8], room: &mut [u8]) -> Result<usize, Refusal>
     write_rows(&words[..rows * WIDTH], rows, WIDTH, room)
 }
 
-// The words of a new text's rows without p, from the start of `old`, where the old form can say them all: the number of rows, or why not.
-// 224 words are room for every table that is read.
+// The words of a new text's rows without p, from the start of `old`, where the old form can say them all: the number of
+// rows, or why not. 224 words are room for every table that is read.
 fn old_rows(text: &[u8], old: &mut [u32]) -> Result<usize, Refusal>
     requires { length old.old ≡ 224 }
     ensures answer { answered result ≡ old_checked text.now }
@@ -88,8 +92,9 @@ fn old_rows(text: &[u8], old: &mut [u32]) -> Result<usize, Refusal>
     Ok(rows)
 }
 
-// A new text whose every p is 0 as an old one, at the start of a lent room: the length of the old text. Refused: the room is as it was.
-// It stands beside `to_new`: one function over the two ways of reading would take their clauses for three lines.
+// A new text whose every p is 0 as an old one, at the start of a lent room: the length of the old text. Refused: the
+// room is as it was. It stands beside `to_new`: one function over the two ways of reading would take their clauses for
+// three lines.
 pub fn to_old(text: &[u8], room: &mut [u8]) -> Result<usize, Refusal>
     ensures answer { answered result ≡ to_old_answer text.now (length room.old) }
     ensures room { room.new ≡ to_old_room text.now room.old }

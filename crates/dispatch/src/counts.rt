@@ -12,8 +12,8 @@ use rows::row_at;
 use tally::spare;
 use tick::rows_of;
 
-// Released jobs, mandatory met and missed, optional met and missed, broken windows, and spare: how many further misses in a row are
-// harmless.
+// Released jobs, mandatory met and missed, optional met and missed, broken windows, and spare: how many further misses
+// in a row are harmless.
 #[derive(Clone, Copy, Debug, Default, PartialEq, Eq, Hash)]
 pub struct Counts {
     pub released: u64,

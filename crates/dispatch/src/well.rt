@@ -1,4 +1,5 @@
-// Whether words that a caller offers are a well-formed state: the tests of document 01 and of document 02, 2/14 and 3/14, and no other.
+// Whether words that a caller offers are a well-formed state: the tests of document 01 and of document 02, 2/14 and
+// 3/14, and no other.
 ghost use Rattle.std.specs.Prelude.{◌≡◌, ◌≤◌, ◌<◌, ◌+◌, ◌*◌, ◌^◌, eqb, leb, ltb};
 ghost use Rattle.law.specs.Sums.{both, every};
 ghost use Rattle.law.specs.Pattern.{InRange};
@@ -78,8 +79,8 @@ fn row_well(r: Row, time: u64) -> bool
     tally_well(r, time) && core_well(r)
 }
 
-// Whether a row's id, word 0 of a row, stands in an earlier row. The table's own looks at a lent table of 32-bit words: one function for
-// both would take a closure with its clauses for these five lines.
+// Whether a row's id, word 0 of a row, stands in an earlier row. The table's own looks at a lent table of 32-bit words:
+// one function for both would take a closure with its clauses for these five lines.
 fn is_repeated(words: &[u64], rows: usize, i: usize) -> bool
     requires { (Sized words.now rows) × (i < rows) }
     ensures { result ≡ repeated (tasks_of (state_of words.now).rows) i }
@@ -93,8 +94,8 @@ fn is_repeated(words: &[u64], rows: usize, i: usize) -> bool
     false
 }
 
-// No row of the table has a fault. The words and their number of rows go together in three functions here, none of which
-// another module calls: a struct of the two would be made for them alone.
+// No row of the table has a fault. The words and their number of rows go together in three functions here, none of
+// which another module calls: a struct of the two would be made for them alone.
 fn table_clean(words: &[u64], rows: usize) -> bool
     requires { Sized words.now rows }
     ensures { result ≡ eqb (faulty (tasks_of (state_of words.now).rows)) rows }
@@ -120,7 +121,8 @@ fn rows_well(words: &[u64], rows: usize, time: u64) -> bool
     true
 }
 
-// Every word is 0. They are put together and looked at once: without a way out of the loop, several words go in one step.
+// Every word is 0. They are put together and looked at once: without a way out of the loop, several words go in one
+// step.
 fn is_clear(words: &[u64]) -> bool
     ensures { result ≡ every (λ w. eqb w 0) words.now }
 {

@@ -7,10 +7,10 @@ ghost use Rattle.std.specs.Io.KnownBytes.{Consumes};
 use std::io;
 use std::io::{ErrorKind, Read, Stdin};
 
-// Reads until the room is full or the input ends: how many bytes of the room were filled. They are the first bytes of the input, in their
-// order, and all of them where the room is not full. Of std's reads, `read_exact` doesn't say how many bytes there were, `read_to_end` takes a
-// heap, and `copy` into a cursor doesn't say what the reader has left. A read may be interrupted again and again: the range
-// makes an end of that.
+// Reads until the room is full or the input ends: how many bytes of the room were filled. They are the first bytes of
+// the input, in their order, and all of them where the room is not full. Of std's reads, `read_exact` doesn't say how
+// many bytes there were, `read_to_end` takes a heap, and `copy` into a cursor doesn't say what the reader has left. A
+// read may be interrupted again and again: the range makes an end of that.
 pub fn read_full<R: Read>(from: &mut R, room: &mut [u8]) -> io::Result<usize>
     ensures fits { IfOk result (λ n. n ≤ length room.new) }
     ensures first { IfOk result (λ n. IfSome (R.remaining from.old)

@@ -42,8 +42,8 @@ impl<const N: usize> Page<N> {
         &self.bytes[..self.len]
     }
 
-    // A run of bytes more, byte by byte: `copy_from_slice` asks for memmove here, which the archive's header does not list, and is slower on runs
-    // as short as these (the text of 32 rows took 3.1 µs for 2.6).
+    // A run of bytes more, byte by byte: `copy_from_slice` asks for memmove here, which the archive's header does not
+    // list, and is slower on runs as short as these (the text of 32 rows took 3.1 µs for 2.6).
     pub fn put(&mut self, part: &[u8])
         requires { length self.old + length part.now ≤ N }
         ensures { self.new ≡ self.old ++ part.now }

@@ -1,5 +1,5 @@
-// One line of a task text, from a place in it: plain slices and numbers, over which text's reader is thin, as document 01
-// names the form.
+// One line of a task text, from a place in it: plain slices and numbers, over which text's reader is thin, as document
+// 01 names the form.
 ghost use Rattle.std.specs.Prelude.{[], ◌≡◌, ◌≤◌, ◌<◌, ◌+◌, length, get_or, true};
 ghost use Rattle.law.specs.Text.{is_digit, is_value, number_of, row_keys};
 ghost use Rattle.law.specs.Reading.{byte_at, key_length, digits_length, value_length, value_at, line_at};
@@ -21,7 +21,8 @@ pub struct Fault {
     pub place: usize,
 }
 
-// The byte at a place. Past the end stands 256, which is no byte: so no test of the length is needed beside the tests of the bytes.
+// The byte at a place. Past the end stands 256, which is no byte: so no test of the length is needed beside the tests
+// of the bytes.
 fn byte_at(text: &[u8], i: usize) -> u64
     ensures { result ≡ byte_at text.now i }
 {

@@ -7,8 +7,8 @@ ghost use Rattle.refusal.specs.Shown.{number_of, also_of, listed};
 use crate::page::Page;
 use refusal::Refusal;
 
-// The row or place that is printed with a refusal. A place in the task text counts from the first byte of the input: the
-// text begins at `start`.
+// The row or place that is printed with a refusal. A place in the task text counts from the first byte of the input:
+// the text begins at `start`.
 #[tactic(auto, unfolding(law::specs::Report::placed))]
 fn printed_place(r: Refusal, start: u64) -> Option<u64>
     requires { start + head (also_of r) ≤ 4294967295 }

@@ -1,4 +1,5 @@
-// What a converting program does: it reads, converts, and says the text on standard output and nothing else, or a refusal on standard error.
+// What a converting program does: it reads, converts, and says the text on standard output and nothing else, or a
+// refusal on standard error.
 #![tactic(auto)]
 
 ghost use Rattle.std.specs.Prelude.{◌≤◌, OnOk};
@@ -28,9 +29,9 @@ fn say<E: Write>(r: Refusal, error: &mut E) -> io::Result<()>
     error.write_all(page.as_slice())
 }
 
-// That nothing stands on standard error tells a program's caller that all went well. So a text that could not be written whole is told there
-// too. An error is that of a write to `error`, and then nothing is known of what stands there.
-// The answer is a length beside the run, as a conversion gives it: its room is longer than what it writes.
+// That nothing stands on standard error tells a program's caller that all went well. So a text that could not be
+// written whole is told there too. An error is that of a write to `error`, and then nothing is known of what stands
+// there. The answer is a length beside the run, as a conversion gives it: its room is longer than what it writes.
 pub fn tell<O: Write, E: Write>(
     answer: Result<usize, Refusal>,
     text: &[u8],

@@ -1,2 +1,3 @@
-// The demands, as theorems over what the public functions answer. The statements stand in specs/, their proofs in proofs/: no code.
+// The demands, as theorems over what the public functions answer. The statements stand in specs/, their proofs in
+// proofs/: no code.
 #![tactic(auto)]

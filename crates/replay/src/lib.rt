@@ -25,8 +25,8 @@ pub struct Progress {
     pub used: u64,
 }
 
-// At most n ticks, one after the other, and none from the first on that releases more jobs than the log has left. Where a number is out of range
-// the words are left in the middle of a tick.
+// At most n ticks, one after the other, and none from the first on that releases more jobs than the log has left. Where
+// a number is out of range the words are left in the middle of a tick.
 fn replay_ticks(
     words: &mut [u64],
     patterns: &[u64],
@@ -54,8 +54,8 @@ fn replay_ticks(
     })
 }
 
-// A replay of a state that is lent as words. It is made on a copy, since a number out of range may stand late in the log: a refused replay
-// leaves every word as it was.
+// A replay of a state that is lent as words. It is made on a copy, since a number out of range may stand late in the
+// log: a refused replay leaves every word as it was.
 pub fn replay_words(words: &mut [u64], n: u32, log: &[u32]) -> Result<Progress, Refusal>
     ensures answer { replayed_shown result ≡ replay_answer words.old n log.now }
     ensures words { words.new ≡ replay_words_law words.old n log.now }

@@ -33,8 +33,8 @@ pub(crate) fn enough(words: &[u64], left: usize) -> bool
     rows_of(words) <= left || due_rows(words) <= left as u64
 }
 
-// Step 1 for row i with the number at the place `next`, where its wait is 0: the place of the number after those used. A number out of range is not
-// taken, and refused with its place.
+// Step 1 for row i with the number at the place `next`, where its wait is 0: the place of the number after those used.
+// A number out of range is not taken, and refused with its place.
 fn release_next(
     words: &mut [u64],
     i: usize,
@@ -57,7 +57,8 @@ fn release_next(
     Ok(next + 1)
 }
 
-// Step 1 for every row, with the numbers of the log from the place `used` on: the place after them; up to the first that is out of range.
+// Step 1 for every row, with the numbers of the log from the place `used` on: the place after them; up to the first
+// that is out of range.
 pub(crate) fn release_logged(
     words: &mut [u64],
     patterns: &[u64],

@@ -31,7 +31,8 @@ fn print_all(input: &[u8], page: &mut Page<5632>)
     }
 }
 
-// What the printing program prints for an input of any length, in the first bytes of a lent room: its length, or that the room is too short for it.
+// What the printing program prints for an input of any length, in the first bytes of a lent room: its length, or that
+// the room is too short for it.
 #[tactic(auto, unfolding(law::specs::Report::report_answer, law::specs::Report::report_room))]
 pub fn report(input: &[u8], room: &mut [u8]) -> Result<usize, Refusal>
     ensures answer { answered result ≡ report_answer input.now (length room.old) }

@@ -32,7 +32,8 @@ fn print_row(page: &mut Page<5632>, i: usize, id: u64, r: u64, room: u64, c: Cou
     page.put_line(b"spare=", c.spare);
 }
 
-// The verdict, and the row that doesn't fit; the response times come into `times`, which stays all 0 where a table is turned down.
+// The verdict, and the row that doesn't fit; the response times come into `times`, which stays all 0 where a table is
+// turned down.
 fn print_verdict(page: &mut Page<5632>, words: &[u32], times: &mut [u32])
     requires { (length page.old + 36 ≤ 5632) × (Good words.now) × (times.old ≡ replicate 32 0) }
     ensures bytes { page.new ≡ page.old ++ verdict_printed (table_of words.now) }
@@ -47,8 +48,8 @@ fn print_verdict(page: &mut Page<5632>, words: &[u32], times: &mut [u32])
     }
 }
 
-// Every row of a table and its state, from the first on. The response times and the rooms are two runs, as `verdict` lays
-// each into a lent one.
+// Every row of a table and its state, from the first on. The response times and the rooms are two runs, as `verdict`
+// lays each into a lent one.
 fn print_rows(page: &mut Page<5632>, words: &[u32], times: &[u32], rooms: &[u32], state: &[u64])
     requires { (length page.old ≤ 224) × (Good words.now) × (Responded (table_of words.now) times.now) × (Roomed (table_of words.now) rooms.now) × (Held 0 state.now) × (tasks_of (state_of state.now).rows ≡ table_of words.now) }
     ensures { page.new ≡ page.old ++ rows_printed (table_of words.now) (state_of state.now) (length (table_of words.now)) }
@@ -66,8 +67,9 @@ fn print_rows(page: &mut Page<5632>, words: &[u32], times: &[u32], rooms: &[u32]
     }
 }
 
-// A table, its verdict, and its state after so many ticks from fresh. The rooms are asked for by themselves, since a table turned down has them too.
-// Nothing is refused: the words are a table, and the rooms and the state are long enough.
+// A table, its verdict, and its state after so many ticks from fresh. The rooms are asked for by themselves, since a
+// table turned down has them too. Nothing is refused: the words are a table, and the rooms and the state are long
+// enough.
 pub(crate) fn print_run(page: &mut Page<5632>, words: &[u32], ticks: u32)
     requires { (page.old ≡ []) × (Good words.now) }
     ensures { page.new ≡ run_printed (table_of words.now) ticks }

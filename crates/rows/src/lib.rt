@@ -1,4 +1,5 @@
-// Where a row stands among the words of a state: the number of rows, the time and the idle count come first, then twenty words a row.
+// Where a row stands among the words of a state: the number of rows, the time and the idle count come first, then
+// twenty words a row.
 #![tactic(auto)]
 
 ghost use Rattle.std.specs.Prelude.{◌≡◌, ◌+◌, ◌*◌, ◌<◌, length, get_or, set};
@@ -37,8 +38,8 @@ pub struct State {
     pub words: [u64; 643],
 }
 
-// One row: its task, the core (wait, place, live job) and the tally. The kind is a number, as it stands in a saved state: a
-// row is read before it is known whether that is 0 or 1.
+// One row: its task, the core (wait, place, live job) and the tally. The kind is a number, as it stands in a saved
+// state: a row is read before it is known whether that is 0 or 1.
 #[derive(Clone, Copy, Debug, PartialEq, Eq)]
 pub struct Row {
     pub task: Task,
@@ -58,8 +59,8 @@ pub fn word(words: &[u64], i: usize, j: usize) -> u64
     words[i * STRIDE + (HEAD + j)]
 }
 
-// The task of row i, its first seven words. table's `task_at` reads words of 32 bits: one function for both would say of
-// each of the seven words what its conversion gives.
+// The task of row i, its first seven words. table's `task_at` reads words of 32 bits: one function for both would say
+// of each of the seven words what its conversion gives.
 #[tactic(auto, unfolding(law::specs::State::row_of, law::specs::Table::task_of))]
 pub fn task_of(words: &[u64], i: usize) -> Task
     requires { (length words.now ≡ 643) × (i < 32) }

@@ -30,8 +30,8 @@ pub fn worked(work: u64, chosen: bool) -> u64
 }
 
 impl Row {
-    // Step 1: a row with wait 0 releases its next job, with the work given (C in a run), D ticks to its deadline and its
-    // kind from its own pattern.
+    // Step 1: a row with wait 0 releases its next job, with the work given (C in a run), D ticks to its deadline and
+    // its kind from its own pattern.
     #[tactic(auto, unfolding(law::specs::Tick::release), using(crate::proofs::Cases::releases))]
     pub fn release(&mut self, pattern: u64, work: u64)
         requires { (Timed 0 (row_said self.old)) × (self.old.wait ≡ 0) × (pattern ≡ word_of (task_said self.old.task)) }
@@ -45,8 +45,8 @@ impl Row {
         self.tally.released += 1;
     }
 
-    // Step 4: the row's job is settled, met or missed. Its work, deadline and kind become 0, and its tally is lent to the
-    // settling routine.
+    // Step 4: the row's job is settled, met or missed. Its work, deadline and kind become 0, and its tally is lent to
+    // the settling routine.
     fn close(&mut self, met: bool)
         requires { (InRange self.old.task.m self.old.task.k) × (Countable self.old.task.k (tally_said self.old.tally)) }
         ensures { row_said self.new ≡ closed_row (bit met) (row_said self.old) }

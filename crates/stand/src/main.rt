@@ -10,8 +10,9 @@ use report::report;
 use std::io;
 use std::io::{Read, Write};
 
-// What is printed for an input, at the start of a room that is long enough for all that is ever printed: its length. Nothing printed is longer
-// than 5,632 bytes (`printed_most`, crates/law/proofs/Report.antt), so the room never is too short.
+// What is printed for an input, at the start of a room that is long enough for all that is ever printed: its length.
+// Nothing printed is longer than 5,632 bytes (`printed_most`, crates/law/proofs/Report.antt), so the room never is too
+// short.
 fn put_printed(input: &[u8], room: &mut [u8; 5632]) -> usize
     ensures fits { result ≤ 5632 }
     ensures bytes { take result room.new ≡ printed input.now }

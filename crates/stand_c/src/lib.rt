@@ -1,4 +1,5 @@
-// The functions that a firmware, or a test in C or Rust, calls: numbers, lent words and lent bytes, and one answer convention.
+// The functions that a firmware, or a test in C or Rust, calls: numbers, lent words and lent bytes, and one answer
+// convention.
 #![tactic(auto)]
 
 ghost use Rattle.std.specs.Prelude.{◌≡◌, length};
@@ -28,8 +29,8 @@ pub struct Answer {
     pub value: u64,
 }
 
-// The answer of a replay, which has two values: where `refusal` is 0, `value` is the ticks done and `used` the numbers used; otherwise `value` is
-// the place that goes with the refusal and `used` is 0.
+// The answer of a replay, which has two values: where `refusal` is 0, `value` is the ticks done and `used` the numbers
+// used; otherwise `value` is the place that goes with the refusal and `used` is 0.
 #[repr(C)]
 #[derive(Clone, Copy)]
 pub struct ReplayAnswer {
@@ -137,7 +138,8 @@ pub extern "C" fn gp_verdict(words: &[u32], room: &mut [u32]) -> Answer
     verdict::judge(words, room).into()
 }
 
-// The rooms of a table's rows, admitted or turned down: its number of rows, and the rooms in the first words of the room.
+// The rooms of a table's rows, admitted or turned down: its number of rows, and the rooms in the first words of the
+// room.
 #[unsafe(no_mangle)]
 pub extern "C" fn gp_rooms(words: &[u32], room: &mut [u32]) -> Answer
     ensures answer { result ≡ numbered (rooms_answer words.now (length room.old)) }
@@ -221,8 +223,8 @@ pub extern "C" fn gp_run(state: &mut [u64], n: u32) -> Answer
     dispatch::run::run_words(state, n).into()
 }
 
-// At most n ticks of a saved state with the lengths of a log, one for each job that is released, in place of C. It stops before the first
-// tick that releases more jobs than the log has left.
+// At most n ticks of a saved state with the lengths of a log, one for each job that is released, in place of C. It
+// stops before the first tick that releases more jobs than the log has left.
 #[unsafe(no_mangle)]
 pub extern "C" fn gp_replay(state: &mut [u64], n: u32, log: &[u32]) -> ReplayAnswer
     ensures answer { result ≡ numbered_two (replay_answer state.old n log.now) }
@@ -231,8 +233,8 @@ pub extern "C" fn gp_replay(state: &mut [u64], n: u32, log: &[u32]) -> ReplayAns
     replay::replay_words(state, n, log).into()
 }
 
-// The counts of one row of a saved state, in seven words of a room: released, mandatory met, mandatory missed, optional met, optional missed,
-// broken windows, spare (misses left). Where there is no such row, all are 0.
+// The counts of one row of a saved state, in seven words of a room: released, mandatory met, mandatory missed, optional
+// met, optional missed, broken windows, spare (misses left). Where there is no such row, all are 0.
 #[unsafe(no_mangle)]
 pub extern "C" fn gp_counts(state: &[u64], row: u32, room: &mut [u64]) -> Answer
     ensures answer { result ≡ numbered (counts_answer state.now (length room.old)) }
@@ -241,8 +243,8 @@ pub extern "C" fn gp_counts(state: &[u64], row: u32, room: &mut [u64]) -> Answer
     dispatch::counts::counts_words(state, row, room).into()
 }
 
-// The frame question: the number of met marks of one row of a saved state, as it is stored; 0 where there is no such row. It is refused
-// only by the number of words or of rows: whether the state is well formed is not looked at.
+// The frame question: the number of met marks of one row of a saved state, as it is stored; 0 where there is no such
+// row. It is refused only by the number of words or of rows: whether the state is well formed is not looked at.
 #[unsafe(no_mangle)]
 pub extern "C" fn gp_held(state: &[u64], row: u32) -> Answer
     ensures { result ≡ numbered (held_answer state.now row) }
@@ -250,8 +252,8 @@ pub extern "C" fn gp_held(state: &[u64], row: u32) -> Answer
     dispatch::held::held_words(state, row).into()
 }
 
-// The printing program as a function: the length of what it prints for an input, and the bytes in the first bytes of the room. A room of 5,632
-// bytes is always long enough.
+// The printing program as a function: the length of what it prints for an input, and the bytes in the first bytes of
+// the room. A room of 5,632 bytes is always long enough.
 #[unsafe(no_mangle)]
 pub extern "C" fn gp_report(input: &[u8], room: &mut [u8]) -> Answer
     ensures answer { result ≡ numbered (report_answer input.now (length room.old)) }

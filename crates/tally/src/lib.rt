@@ -21,8 +21,8 @@ pub struct Tally {
     pub held: u64,
 }
 
-// The window of k marks after one more: the newest is bit 0, the mark that reaches bit k is cut. The mask is `book::low_bits` of k written out: with
-// a call of that the proof doesn't close by `shift_is`.
+// The window of k marks after one more: the newest is bit 0, the mark that reaches bit k is cut. The mask is
+// `book::low_bits` of k written out: with a call of that the proof doesn't close by `shift_is`.
 #[tactic(auto, using(law::proofs::Window::shift_is))]
 fn shift(window: u64, met: bool, k: u64) -> u64
     requires { (1 ≤ k) × (k ≤ 64) }
@@ -73,8 +73,8 @@ impl Tally {
     ghost use Rattle.tally.specs.Said.{tally_said, Countable};
 
     // The tally after a job of that kind is settled, met or missed: the window shifts, the number of its met marks is
-    // amended, one count goes up, and a window that then holds fewer than m met marks is counted as broken. The kind is a
-    // number, 1 for mandatory and 0 for optional, as it stands in a saved state.
+    // amended, one count goes up, and a window that then holds fewer than m met marks is counted as broken. The kind is
+    // a number, 1 for mandatory and 0 for optional, as it stands in a saved state.
     #[tactic(auto, unfolding(law::specs::Tick::settled))]
     fn settled(self, kind: u64, met: bool, pair: Pair) -> Self
         requires { Countable pair.k (tally_said self) }

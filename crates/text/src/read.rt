@@ -1,6 +1,6 @@
-// Task text read whole: rows of so many lines, their table, and the words laid into a lent room. The readers of a row and of
-// a file take an answer apart by `let .. else` and stop at a fault, the form that document 01 names. The words stand at the
-// start of a run, with the number of rows beside: there is no heap.
+// Task text read whole: rows of so many lines, their table, and the words laid into a lent room. The readers of a row
+// and of a file take an answer apart by `let .. else` and stop at a fault, the form that document 01 names. The words
+// stand at the start of a run, with the number of rows beside: there is no heap.
 ghost use Rattle.std.specs.Prelude.{◌≡◌, ◌≤◌, ◌<◌, ◌*◌, length, take, IfErr};
 ghost use Rattle.law.specs.Text.{row_keys, keys_of};
 ghost use Rattle.law.specs.Reading.{lines_at, rows_at, words_read, text_answer, read_answer, read_room};
@@ -67,8 +67,8 @@ fn rows_to_end(
     Ok(())
 }
 
-// A text whose rows have the first `width` lines of a row: the number of its rows, whose words then stand from the start of `words`, so many a
-// row; or the refusal of its lines.
+// A text whose rows have the first `width` lines of a row: the number of its rows, whose words then stand from the
+// start of `words`, so many a row; or the refusal of its lines.
 pub fn rows_of(text: &[u8], words: &mut [u32; 224], width: usize) -> Result<usize, Refusal>
     requires { (length words.old ≡ 224) × (width ≤ 7) }
     ensures answer { answered result ≡ text_answer (take width row_keys) text.now }
@@ -91,7 +91,8 @@ pub fn rows_of(text: &[u8], words: &mut [u32; 224], width: usize) -> Result<usiz
     Ok(rows as usize)
 }
 
-// A task text, read into a lent room. Read: its words stand in the first words of the room, seven to a row. Refused: the room is as it was.
+// A task text, read into a lent room. Read: its words stand in the first words of the room, seven to a row. Refused:
+// the room is as it was.
 pub fn read(text: &[u8], room: &mut [u32]) -> Result<usize, Refusal>
     ensures answer { answered result ≡ read_answer text.now (length room.old) }
     ensures room { room.new ≡ read_room text.now room.old }

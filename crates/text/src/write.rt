@@ -8,7 +8,8 @@ use line::page::Page;
 use refusal::Refusal;
 use table::{WIDTH, check};
 
-// The number within its row of the line after line j: no division a line (by a remainder the text of 32 rows took 3.3 µs for 3.1).
+// The number within its row of the line after line j: no division a line (by a remainder the text of 32 rows took 3.3
+// µs for 3.1).
 fn next_line(j: usize, width: usize) -> usize
     requires { j < width }
     ensures { result ≡ (j + 1) % width }
@@ -31,8 +32,8 @@ fn text_page(words: &[u32], rows: usize, width: usize) -> Page<1512>
     page
 }
 
-// The text of rows of so many words, at the start of a lent room: its length; refused: the room is as it was. The text is made apart from the
-// room, since its length is known only then.
+// The text of rows of so many words, at the start of a lent room: its length; refused: the room is as it was. The text
+// is made apart from the room, since its length is known only then.
 pub fn write_rows(
     words: &[u32],
     rows: usize,

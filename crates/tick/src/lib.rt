@@ -1,6 +1,6 @@
-// One tick over all rows of a state's words: release, choose, work and settle. The words are those that C lends, so that
-// what stands in them (`Laid`, `Held`) and the patterns that go with them (`Fetched`) are named in each contract: a struct
-// round the lent words would take a clause on them in each of its methods too.
+// One tick over all rows of a state's words: release, choose, work and settle. The words are those that C lends, so
+// that what stands in them (`Laid`, `Held`) and the patterns that go with them (`Fetched`) are named in each contract:
+// a struct round the lent words would take a clause on them in each of its methods too.
 #![tactic(auto, using(crate::proofs::Usual::usual))]
 
 ghost use Rattle.std.specs.Prelude.{◌≡◌, ◌+◌, ◌≤◌, ◌<◌, length, get_or, Some, IfSome};
@@ -46,7 +46,8 @@ fn release_one(words: &mut [u64], i: usize, pattern: u64)
     release_row(words, i, pattern, work);
 }
 
-// Steps 3 and 4 for row i, the whole row. Inlined, as `finish` is: a call for each job that settles, and for each tick, is slower.
+// Steps 3 and 4 for row i, the whole row. Inlined, as `finish` is: a call for each job that settles, and for each tick,
+// is slower.
 #[tactic(auto, using(rows::proofs::Words::in_place))]
 #[inline(always)]
 fn settle_one(words: &mut [u64], i: usize, chosen: bool)
@@ -78,7 +79,8 @@ fn advance_one(words: &mut [u64], i: usize, chosen: bool)
     put_going(words, i, wait, rest, left - 1);
 }
 
-// Step 2: the mandatory live job of the highest row; if there is none, the optional one of the highest row; if none, the tick is idle.
+// Step 2: the mandatory live job of the highest row; if there is none, the optional one of the highest row; if none,
+// the tick is idle.
 fn choose(words: &[u64]) -> Option<usize>
     requires { Laid words.now }
     ensures row { unwrap_or result (length (state_of words.now).rows) ≡ choose_law (state_of words.now).rows }

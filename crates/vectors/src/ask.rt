@@ -24,8 +24,8 @@ pub(crate) fn check<W: Write>(out: &mut W, case: &[u64]) -> io::Result<()> {
     show::counted(out, table::check(&table[..n]))
 }
 
-// A call that takes the numbers of a case from 2 on, laid into `given`, and a room of the length that number 1 asks for: its answer, and every
-// word of that room.
+// A call that takes the numbers of a case from 2 on, laid into `given`, and a room of the length that number 1 asks
+// for: its answer, and every word of that room.
 pub(crate) fn over<W, A, B, F>(
     out: &mut W,
     case: &[u64],

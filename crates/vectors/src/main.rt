@@ -1,5 +1,6 @@
-// The stored cases: a line of standard input puts one question to a public function, and a line of standard output answers it.
-// A line is the operation's number and the numbers that it takes; the answer repeats the operation's number.
+// The stored cases: a line of standard input puts one question to a public function, and a line of standard output
+// answers it. A line is the operation's number and the numbers that it takes; the answer repeats the operation's
+// number.
 #![tactic(auto)]
 
 mod ask;
@@ -15,8 +16,8 @@ use numbers::{number_at, numbers_of};
 use std::io;
 use std::io::{Read, Write};
 
-// One case. A number that is no operation's is answered by itself alone. A match, since a table of functions would not show each operation's
-// number beside it.
+// One case. A number that is no operation's is answered by itself alone. A match, since a table of functions would not
+// show each operation's number beside it.
 fn answer<W: Write>(out: &mut W, case: &[u64]) -> io::Result<()> {
     let operation = number_at(case, 0);
     write!(out, "{operation}")?;

@@ -1,5 +1,5 @@
-// Lines of decimal numbers. Every byte string is read: a byte that is no digit ends a number, LF ends the line, a number of more than
-// 64 bits wraps, and numbers past the end of their room are left out.
+// Lines of decimal numbers. Every byte string is read: a byte that is no digit ends a number, LF ends the line, a
+// number of more than 64 bits wraps, and numbers past the end of their room are left out.
 ghost use Rattle.std.specs.Prelude.{◌≤◌, length};
 
 // A number with one digit more.
@@ -7,7 +7,8 @@ fn with_digit(number: u64, digit: u8) -> u64 {
     number.wrapping_mul(10).wrapping_add(u64::from(digit))
 }
 
-// The numbers of a line, laid into a room: how many there are. The count goes up where a number ends, not with each byte.
+// The numbers of a line, laid into a room: how many there are. The count goes up where a number ends, not with each
+// byte.
 pub(crate) fn numbers_of(line: &[u8], room: &mut [u64]) -> usize
     ensures { result ≤ length room.new }
 {

@@ -1,4 +1,5 @@
-// Operations over a state, which stands in a room of the length asked, at most 672: 5 fresh, 6 run, 7 counts, 11 met marks, 14 replay.
+// Operations over a state, which stands in a room of the length asked, at most 672: 5 fresh, 6 run, 7 counts, 11 met
+// marks, 14 replay.
 use crate::numbers::{low_at, number_at, numbers_from, part_of, words_of};
 use crate::show;
 use crate::show::BEFORE;
@@ -34,7 +35,8 @@ pub(crate) fn fresh<W: Write>(out: &mut W, case: &[u64]) -> io::Result<()> {
     })
 }
 
-// A fresh state, n ticks and the word at the place changed, where it has that word, and what follows on it: every longer operation.
+// A fresh state, n ticks and the word at the place changed, where it has that word, and what follows on it: every
+// longer operation.
 fn over_damaged<W, F>(out: &mut W, case: &[u64], words: &[u64], then: F) -> io::Result<()>
 where
     W: Write,
@@ -50,8 +52,8 @@ where
     })
 }
 
-// `6 length n place value more words`: fresh, n ticks, the word at the place changed, well formed or not, a tick, more ticks; an answer of
-// each but the change, and the state.
+// `6 length n place value more words`: fresh, n ticks, the word at the place changed, well formed or not, a tick, more
+// ticks; an answer of each but the change, and the state.
 pub(crate) fn damaged<W: Write>(out: &mut W, case: &[u64]) -> io::Result<()> {
     over_damaged(out, case, numbers_from(case, 6), |out, state| {
         show::done(out, is_well(state).then_some(()).ok_or(Refusal::State))?;
@@ -61,8 +63,8 @@ pub(crate) fn damaged<W: Write>(out: &mut W, case: &[u64]) -> io::Result<()> {
     })
 }
 
-// `7 length n place value row room words`: fresh, n ticks, the word at the place changed, the counts of the row in a room of that length, at
-// most 16; an answer of each but the change, and every word of the room.
+// `7 length n place value row room words`: fresh, n ticks, the word at the place changed, the counts of the row in a
+// room of that length, at most 16; an answer of each but the change, and every word of the room.
 pub(crate) fn counts<W: Write>(out: &mut W, case: &[u64]) -> io::Result<()> {
     over_damaged(out, case, numbers_from(case, 7), |out, state| {
         let mut room = [u64::from(BEFORE); 16];
@@ -75,16 +77,17 @@ pub(crate) fn counts<W: Write>(out: &mut W, case: &[u64]) -> io::Result<()> {
     })
 }
 
-// `11 length n place value row words`: fresh, n ticks, the word at the place changed, how many met marks the row has; an answer of each but the
-// change.
+// `11 length n place value row words`: fresh, n ticks, the word at the place changed, how many met marks the row has;
+// an answer of each but the change.
 pub(crate) fn held<W: Write>(out: &mut W, case: &[u64]) -> io::Result<()> {
     over_damaged(out, case, numbers_from(case, 6), |out, state| {
         show::answered(out, held_words(state, low_at(case, 5)))
     })
 }
 
-// `14 length n place value more count log words`: fresh, n ticks, the word at the place changed, a replay of at most `more` ticks with a log of
-// `count` numbers, at most 512; an answer of each but the change, that of the replay as three numbers, and the state.
+// `14 length n place value more count log words`: fresh, n ticks, the word at the place changed, a replay of at most
+// `more` ticks with a log of `count` numbers, at most 512; an answer of each but the change, that of the replay as
+// three numbers, and the state.
 pub(crate) fn replay<W: Write>(out: &mut W, case: &[u64]) -> io::Result<()> {
     let mut log = [0u32; 512];
     let rest = numbers_from(case, 7);

@@ -61,8 +61,8 @@ fn digest(room: &[u64]) -> u64 {
     sum
 }
 
-// How many words of a state are worth printing: the head and its rows, and the head alone where no state has as many rows. A room too short for
-// a state has none.
+// How many words of a state are worth printing: the head and its rows, and the head alone where no state has as many
+// rows. A room too short for a state has none.
 fn state_length(state: &[u64]) -> usize
     ensures { IsPrefixLen result state.now }
 {

@@ -26,7 +26,8 @@ pub(crate) fn write<W: Write>(out: &mut W, case: &[u64]) -> io::Result<()> {
     )
 }
 
-// `10 length bytes`: the length of what the printing program prints, and every byte of a room of that length, at most 4,096.
+// `10 length bytes`: the length of what the printing program prints, and every byte of a room of that length, at most
+// 4,096.
 pub(crate) fn print<W: Write>(out: &mut W, case: &[u64]) -> io::Result<()> {
     over(
         out,

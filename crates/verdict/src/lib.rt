@@ -1,5 +1,5 @@
-// The verdict: whether every mandatory job of a table can meet its deadline, by the room that rows above leave each row and the first tick at which its
-// load fits.
+// The verdict: whether every mandatory job of a table can meet its deadline, by the room that rows above leave each row
+// and the first tick at which its load fits.
 #![tactic(auto)]
 
 ghost use Rattle.std.specs.Prelude.{◌++◌, ◌≡◌, ◌≤◌, ◌<◌, length, drop};
@@ -15,16 +15,16 @@ ghost use Rattle.verdict.specs.Stretch.{next_release, until_of};
 use refusal::Refusal;
 use table::{Table, Task};
 
-// What a row, or all rows above another, bring by a tick, and the next tick, from that one on, at which they release; of the rows above, the other's D at
-// the latest.
+// What a row, or all rows above another, bring by a tick, and the next tick, from that one on, at which they release;
+// of the rows above, the other's D at the latest.
 #[derive(Clone, Copy)]
 struct Standing {
     pub brought: u64,
     pub until: u64,
 }
 
-// How many of a row's first q jobs an even pattern makes mandatory. That the row is in its ranges is asked here and by the
-// three functions below: a type for it would have the seven words of a `Task` once more.
+// How many of a row's first q jobs an even pattern makes mandatory. That the row is in its ranges is asked here and by
+// the three functions below: a type for it would have the seven words of a `Task` once more.
 #[tactic(auto, unfolding(law::specs::Pattern::count, law::specs::Sums::ceil))]
 fn even_count(task: Task, q: u64) -> u64
     requires { (Ranged (task_said task)) × (q ≤ 65535) }
@@ -34,7 +34,8 @@ fn even_count(task: Task, q: u64) -> u64
     (q * task.m + (task.k - 1)) / task.k
 }
 
-// How many a deeply-red pattern does: m of every whole k, and of the q mod k after them the smaller of that number and m.
+// How many a deeply-red pattern does: m of every whole k, and of the q mod k after them the smaller of that number and
+// m.
 #[tactic(auto, unfolding(law::specs::Pattern::red_count))]
 fn red_count(task: Task, q: u64) -> u64
     requires { (Ranged (task_said task)) × (q ≤ 65535) }
@@ -57,7 +58,8 @@ fn count(task: Task, q: u64) -> u64
     }
 }
 
-// What a row brings to those below it by t: C for each mandatory job that it releases before t; and its next release from t on.
+// What a row brings to those below it by t: C for each mandatory job that it releases before t; and its next release
+// from t on.
 #[tactic(auto, unfolding(law::specs::Verdict::demand, law::specs::Sums::ceil, crate::specs::Stretch::next_release))]
 fn brings(task: Task, t: u64) -> Standing
     requires { (Ranged (task_said task)) × (t ≤ 65535) }
@@ -96,9 +98,10 @@ fn room_at(table: Table, row: usize, t: u64) -> u64
     t.saturating_sub(stretch(table, row, t).brought)
 }
 
-// The search for a row's room. Within a stretch t less the load is largest at the end, so the walk goes from stretch to stretch, and leaps over those in
-// which it is at most the best found: what rows above bring never falls, so that no tick up to the best and what they bring by now gives more than the
-// best. To begin with what is left at D makes the leaps long, unless rows above fill nearly every tick.
+// The search for a row's room. Within a stretch t less the load is largest at the end, so the walk goes from stretch to
+// stretch, and leaps over those in which it is at most the best found: what rows above bring never falls, so that no
+// tick up to the best and what they bring by now gives more than the best. To begin with what is left at D makes the
+// leaps long, unless rows above fill nearly every tick.
 #[tactic(auto, using(crate::proofs::Walk::walking))]
 fn search_room(table: Table, row: usize) -> u64
     requires { row < length (table_of table.words.now) }
@@ -116,8 +119,9 @@ fn search_room(table: Table, row: usize) -> u64
     best
 }
 
-// The first tick that fits a row, or that none does, which is when its C is above its room: both are the loop's answers, by `break`, the form that document 01
-// names. Where the load at t is above t, no tick up to that load fits: the search goes on there.
+// The first tick that fits a row, or that none does, which is when its C is above its room: both are the loop's
+// answers, by `break`, the form that document 01 names. Where the load at t is above t, no tick up to that load fits:
+// the search goes on there.
 #[tactic(auto, using(crate::proofs::Seeking::seeking))]
 fn search(table: Table, row: usize) -> Option<u64>
     requires { row < length (table_of table.words.now) }
@@ -153,8 +157,8 @@ fn respond(table: Table) -> Result<[u32; 32], Refusal>
     Ok(times)
 }
 
-// The verdict on a lent run of words. Admitted, with the number of rows: the response times stand in the first words of the room, one per row.
-// Refused: the room is as it was.
+// The verdict on a lent run of words. Admitted, with the number of rows: the response times stand in the first words of
+// the room, one per row. Refused: the room is as it was.
 pub fn judge(words: &[u32], room: &mut [u32]) -> Result<usize, Refusal>
     ensures answer { answered result ≡ verdict words.now (length room.old) }
     ensures room { room.new ≡ verdict_room words.now room.old }
@@ -180,8 +184,8 @@ fn measure(table: Table, run: &mut [u32])
     }
 }
 
-// The rooms of a table in a lent run of words, one per row in its first words, whether the table is admitted or turned down: the number of rows.
-// Refused: the run is as it was.
+// The rooms of a table in a lent run of words, one per row in its first words, whether the table is admitted or turned
+// down: the number of rows. Refused: the run is as it was.
 pub fn rooms(words: &[u32], run: &mut [u32]) -> Result<usize, Refusal>
     ensures answer { answered result ≡ rooms_answer words.now (length run.old) }
     ensures run { run.new ≡ rooms_lent words.now run.old }
