@@ -20,7 +20,7 @@ pub fn the_book() -> &'static [u64; 2080]
 }
 
 // The word whose first n bits are set, and no other: a deeply-red pattern with n of any k, and a window of n met
-// marks.
+// marks. n is the m of a row or its k, so no `Pair` is asked.
 #[tactic(auto, using(law::proofs::Window::cut_is))]
 pub fn low_bits(n: u64) -> u64
     requires { (1 ≤ n) × (n ≤ 64) }

@@ -33,6 +33,7 @@ fn shift(window: u64, met: bool, k: u64) -> u64
 }
 
 // The met marks of a window, counted: for a tally that comes from outside. Settling amends the number that is kept.
+// k alone is asked, so it takes no `Pair`.
 #[tactic(auto, using(law::proofs::Window::marks_are_ones))]
 pub fn marks_in(window: u64, k: u64) -> u64
     requires { window < 2 ^ k }
@@ -53,7 +54,7 @@ fn amend(held: u64, window: u64, met: bool, k: u64) -> u64
 }
 
 // How many further misses in a row the task can bear. From the newest mark on, marks are taken in until m of them are
-// met: the marks not taken in may go. 0 where all k don't hold m.
+// met: the marks not taken in may go. 0 where all k don't hold m. m may be any number, so it takes no `Pair`.
 pub fn spare(window: u64, m: u64, k: u64) -> u64
     requires { k ≤ 64 }
     ensures { result ≡ spare_law m k window }

@@ -142,7 +142,8 @@ fn search(table: Table, row: usize) -> Option<u64>
     }
 }
 
-// The response times, row by row from the top, or the first row that doesn't fit.
+// The response times, row by row from the top, or the first row that doesn't fit. They stand in an array of the most
+// rows there can be, since a room is written only once every row fits, and without a heap.
 fn respond(table: Table) -> Result<[u32; 32], Refusal>
     ensures { responded (table_of table.entry.words.now) result ≡ tried (table_of table.entry.words.now) }
 {
