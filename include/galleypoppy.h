@@ -171,7 +171,7 @@ enum gp_count {
 /*
  * Whether job number `job`, from 0, of a task with m out of k is mandatory by the even rule. Value: 1, or 0 for optional.
  * It tells of a row with p 0 only. In a row with p 1, job a is mandatory when a mod k is below m. It takes one remainder and lays
- * nothing on the stack, so it may be asked often; gp_word lays the whole book.
+ * nothing on the stack, so it may be asked often.
  * Refusals: 8, 9, each with row 0.
  */
 struct gp_answer gp_job(uint32_t m, uint32_t k, uint32_t job);

@@ -26,8 +26,8 @@
 //! # }
 //! ```
 //!
-//! Stack: [`word`], [`tick`], [`run`], [`replay`] and [`report`] lay the pattern book there, 16,640 bytes, and [`replay`]
-//! a copy of the state. A [`State`] is 5,144 bytes.
+//! Stack, in the archive: [`report`] takes 13,288 bytes and [`replay`], with a copy of the state, 5,596; the others less,
+//! as the C header says. A [`State`] is 5,144 bytes.
 #![no_std]
 #![deny(missing_docs)]
 #![deny(unsafe_op_in_unsafe_fn)]
