@@ -8,11 +8,11 @@
  * compiler's back end is right.
  *
  * What the functions do not do: allocate, keep anything between calls, read or write anything but the lent runs, stop or jump out.
- * They can be called at the same time on different runs. The archive has no data that is written: 48 bytes of pointers to constants
- * (.data.rel.ro) are set once, by the linker or a loader. The only outside symbols it asks for are memcpy and memset.
+ * They can be called at the same time on different runs. The archive has no writable data, and the only outside symbols it asks for
+ * are memcpy and memset.
  *
  * Stack, measured at 32 rows: gp_report, which holds a table, a state and what it prints, 13,288 bytes; gp_replay, with a copy of the
- * state, 5,596; gp_to_old 4,520, gp_to_new 3,528, gp_write 1,672, gp_read 1,128, gp_run and gp_tick 956, gp_verdict 576, gp_rooms 176;
+ * state, 5,596; gp_to_new and gp_to_old 3,528, gp_write 1,672, gp_read 1,112, gp_run and gp_tick 956, gp_verdict 576, gp_rooms 176;
  * gp_job, gp_word, gp_check, gp_fresh, gp_well, gp_counts and gp_held under 150. No frames along any calls add up to more; memcpy and
  * memset are not counted.
  *

@@ -1,9 +1,9 @@
 -- The rule by one remainder tells the same jobs as document 01's rule by floor and ceiling.
 use mathlib.Core.Bool.{true, false}
-use mathlib.Core.Path.{◌≡◌}
+use mathlib.Core.Path.{◌≡◌, sym}
 use Prim.Native.Nat.{ℕ, suc, ◌-◌, ◌*◌, ◌/◌, ◌%◌, ◌≤◌, ◌<◌}
 use native.Mathlib.Decide.{dec_lt}
-use native.Mathlib.Nat.{div-add-mod', mod-lt, suc-mul}
+use native.Mathlib.Nat.{div-add-mod', mod-lt, suc-mul, mul-le-mul}
 use native.Mathlib.Omega.{arith}
 use lib.Dec.{eqb, ltb}
 use borrow.Author.Tests.{eq-eqb, ne_eqb, lt-ltb, le-ltb}
@@ -19,6 +19,10 @@ module _ (m k a : ℕ) (h : InRange m k) where
 
   k_some : 0 < k
   k_some = omega (arith, h.m_low, h.m_high)
+
+  -- a 32-bit job number times m is far below 2^64
+  pub small : a ≤ 4294967295 → a * m ≤ 4294967295 * 64
+  small l = mul-le-mul {n₁ = a} {m₁ = m} {n₂ = 4294967295} {m₂ = 64} l (omega (arith, h.m_high, h.k_high))
 
   -- with nothing left over the multiple of k that reaches a x m is a x m itself
   whole : a * m % k ≡ 0 → ceil (a * m) k ≡ a * m / k
@@ -68,3 +72,7 @@ module _ (m k a : ℕ) (h : InRange m k) where
             let n : a * m % k ≡ 0 → ⊥ = λ (e : a * m % k ≡ 0). omega arith in
             rw (ne_eqb (a * m % k) 0 n) (something_left n)
       ]
+
+  -- turned round, as the proof of the code takes it
+  pub told_by_rule : mandatory m k a ≡ by_remainder m k a
+  told_by_rule = sym one_remainder

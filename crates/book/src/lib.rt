@@ -48,6 +48,7 @@ pub struct Pair {
 impl Pair {
     ghost use Rattle.law.specs.Pattern.{word, mandatory, pair_checked};
     ghost use Rattle.book.specs.Pair.{pair_shown};
+    ghost use Rattle.book.specs.Remainder.{by_remainder};
 
     // The pair that a caller offers, or why it is none. k is looked at first.
     #[tactic(auto, using(crate::proofs::Pairs::tests))]
@@ -77,9 +78,10 @@ impl Pair {
     // Whether a job is mandatory, by one remainder and without the book: the tuner asks several hundred times a
     // second. A remainder from 1 to k - m is that of an optional job. The product of a 32-bit number and one of at most
     // 64 is taken in 64 bits: it can't wrap.
-    #[tactic(auto, using(crate::proofs::Remainder::nothing_left, crate::proofs::Remainder::something_left))]
+    #[tactic(auto, unfolding(crate::specs::Remainder::by_remainder), using(crate::proofs::Remainder::told_by_rule))]
     fn is_mandatory(self, job: u32) -> bool
-        ensures { result ≡ mandatory self.m self.k job }
+        ensures rule { result ≡ by_remainder self.m self.k job }
+        ensures kind { result ≡ mandatory self.m self.k job }
     {
         let remainder = u64::from(job) * self.m % self.k;
         let most = self.k - self.m;

@@ -3,8 +3,10 @@ ghost use Rattle.std.specs.Prelude.{[], ◌∷◌, ◌++◌, ◌≡◌, ◌+◌,
 ghost use Rattle.law.specs.Refusal.{head};
 ghost use Rattle.law.specs.Report.{refusal_printed, placed};
 ghost use Rattle.refusal.specs.Shown.{number_of, also_of, listed};
+ghost use Rattle.line.specs.Put.{put_at};
 
 use crate::page::Page;
+use crate::put::put_bytes;
 use refusal::Refusal;
 
 // The row or place that is printed with a refusal. A place in the task text counts from the first byte of the input:
@@ -21,13 +23,30 @@ fn printed_place(r: Refusal, start: u64) -> Option<u64>
     }
 }
 
-// A refusal: its number, then the row or place where there is one.
-pub fn put_refusal<const N: usize>(page: &mut Page<N>, r: Refusal, start: u64)
-    requires { (length page.old + 33 ≤ N) × (start + head (also_of r) ≤ 4294967295) }
-    ensures { page.new ≡ page.old ++ refusal_printed (number_of r) (placed start (number_of r) (also_of r)) }
-{
-    page.put_line(b"refused=", r.number());
-    if let Some(place) = printed_place(r, start) {
-        page.put_line(b"at=", place);
+impl<const N: usize> Page<N> {
+    ghost use Rattle.law.specs.Refusal.{head};
+    ghost use Rattle.law.specs.Report.{refusal_printed, placed};
+    ghost use Rattle.refusal.specs.Shown.{number_of, also_of};
+
+    // A refusal more: its number, then the row or place where there is one.
+    pub fn put_refusal(&mut self, r: Refusal, start: u64)
+        requires { (length self.old + 33 ≤ N) × (start + head (also_of r) ≤ 4294967295) }
+        ensures { self.new ≡ self.old ++ refusal_printed (number_of r) (placed start (number_of r) (also_of r)) }
+    {
+        self.put_line(b"refused=", r.number());
+        if let Some(place) = printed_place(r, start) {
+            self.put_line(b"at=", place);
+        }
     }
+}
+
+// A refusal, put at the start of a lent run of bytes; answers the place after it.
+pub fn put_refusal(out: &mut [u8], r: Refusal, start: u64) -> usize
+    requires { (33 ≤ length out.old) × (start + head (also_of r) ≤ 4294967295) }
+    ensures place { result ≡ length (refusal_printed (number_of r) (placed start (number_of r) (also_of r))) }
+    ensures bytes { out.new ≡ put_at out.old 0 (refusal_printed (number_of r) (placed start (number_of r) (also_of r))) }
+{
+    let mut page = Page::<33>::new();
+    page.put_refusal(r, start);
+    put_bytes(out, 0, page.as_slice())
 }

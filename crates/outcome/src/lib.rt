@@ -13,7 +13,6 @@ ghost use Rattle.outcome.specs.Tells.{Tells};
 
 use intake::read_full;
 use line::page::Page;
-use line::refused::put_refusal;
 use refusal::Refusal;
 use std::io;
 use std::io::{Read, Write};
@@ -25,7 +24,7 @@ fn say<E: Write>(r: Refusal, error: &mut E) -> io::Result<()>
     ensures { OnOk result (Appends (E.contents error.old) (E.contents error.new) (error_of (shown r))) }
 {
     let mut page = Page::<33>::new();
-    put_refusal(&mut page, r, 0);
+    page.put_refusal(r, 0);
     error.write_all(page.as_slice())
 }
 

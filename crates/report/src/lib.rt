@@ -9,7 +9,6 @@ pub mod print;
 
 use line::page::Page;
 use line::read::line_at;
-use line::refused::put_refusal;
 use print::print_run;
 use refusal::Refusal;
 use table::WIDTH;
@@ -22,12 +21,12 @@ fn print_all(input: &[u8], page: &mut Page<5632>)
 {
     let line = match line_at(input, 0, b"ticks=") {
         Ok(line) => line,
-        Err(fault) => return put_refusal(page, Refusal::Text(fault.place as u64), 0),
+        Err(fault) => return page.put_refusal(Refusal::Text(fault.place as u64), 0),
     };
     let mut words = [0u32; 224];
     match read(&input[line.next..], &mut words) {
         Ok(rows) => print_run(page, &words[..rows * WIDTH], line.value as u32),
-        Err(r) => put_refusal(page, r, line.next as u64),
+        Err(r) => page.put_refusal(r, line.next as u64),
     }
 }
 

@@ -3,8 +3,9 @@
 // a struct round the lent words would take a clause on them in each of its methods too.
 #![tactic(auto, using(crate::proofs::Usual::usual))]
 
-ghost use Rattle.std.specs.Prelude.{◌≡◌, ◌+◌, ◌≤◌, ◌<◌, length, get_or, Some, IfSome};
+ghost use Rattle.std.specs.Prelude.{◌≡◌, ◌+◌, ◌≤◌, ◌<◌, eqb, ltb, length, get_or, Some, IfSome};
 ghost use Rattle.std.specs.Option.{is_none, unwrap_or};
+ghost use Rattle.law.specs.Sums.{both};
 ghost use Rattle.law.specs.Table.{word_of};
 ghost use Rattle.law.specs.Tick.{no_row, core_at, release_row, advance_row, choose as choose_law, full_length, begin, finish as finish_law, tick as tick_law, run as run_law, clock_end};
 ghost use Rattle.law.specs.State.{state_of, laid, with_row};
@@ -79,6 +80,13 @@ fn advance_one(words: &mut [u64], i: usize, chosen: bool)
     put_going(words, i, wait, rest, left - 1);
 }
 
+// Whether a job with that work left and that kind is live and mandatory.
+fn is_urgent(work: u64, kind: u64) -> bool
+    ensures { result ≡ both (ltb 0 work) (eqb kind 1) }
+{
+    work > 0 && kind == 1
+}
+
 // Step 2: the mandatory live job of the highest row; if there is none, the optional one of the highest row; if none,
 // the tick is idle.
 fn choose(words: &[u64]) -> Option<usize>
@@ -88,10 +96,11 @@ fn choose(words: &[u64]) -> Option<usize>
 {
     let mut optional = None;
     for i in 0..rows_of(words) {
-        if word(words, i, WORK) > 0 {
-            if word(words, i, KIND) == 1 {
-                return Some(i);
-            }
+        let work = word(words, i, WORK);
+        if is_urgent(work, word(words, i, KIND)) {
+            return Some(i);
+        }
+        if work > 0 {
             optional = optional.or(Some(i));
         }
     }

@@ -2,18 +2,18 @@ use mathlib.Core.Path.{ap}
 use native.Mathlib.Omega.{arith}
 use lib.ListN.{length}
 use Rattle.text.proofs.Putting.{Whole, first_fits, put_start, in_width, due_fits, put_next, put_all}
-use Rattle.text.proofs.write.text_page.Goals as goal
+use Rattle.text.proofs.write.put_text.Goals as goal
 
 pub put_line-requires : goal.put_line-requires
 put_line-requires c =
     let r = c.requires in
-    let w : Whole c.args.words.now c.args.rows c.args.width = record { whole = r.0; some = r.2; narrow = r.3; fits = r.4 } in
-    (omega arith, (omega (arith, r.1), omega (arith, ap length c.new-page.ensures, first_fits w)))
+    let w : Whole c.args.words.now c.args.rows c.args.width = record { whole = r.1; some = r.3; narrow = r.4; fits = r.5 } in
+    (omega arith, (omega (arith, r.2), omega (arith, ap length r.0, first_fits w)))
 
 pub loop-word-init : goal.loop-word-init
 loop-word-init c =
     let r = c.requires in
-    put_start (record { whole = r.0; some = r.2; narrow = r.3; fits = r.4 }) (rw c.new-page.ensures at c.put_line.ensures.line)
+    put_start (record { whole = r.1; some = r.3; narrow = r.4; fits = r.5 }) (rw r.0 at c.put_line.ensures.line)
 
 pub put_due-requires : goal.put_due-requires
 put_due-requires c =
