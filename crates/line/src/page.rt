@@ -46,7 +46,8 @@ impl<const N: usize> Page<N> {
         requires { length self.old + length part.now ≤ N }
         ensures { self.new ≡ self.old ++ part.now }
     {
-        self.len = put_bytes(&mut self.bytes, self.len, part);
+        let end = put_bytes(&mut self.bytes, self.len, part);
+        self.len = end;
     }
 
     // One byte more.

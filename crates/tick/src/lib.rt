@@ -3,9 +3,8 @@
 // a struct round the lent words would take a clause on them in each of its methods too.
 #![tactic(auto, using(crate::proofs::Usual::usual))]
 
-ghost use Rattle.std.specs.Prelude.{◌≡◌, ◌+◌, ◌≤◌, ◌<◌, eqb, ltb, length, get_or, Some, IfSome};
+ghost use Rattle.std.specs.Prelude.{◌≡◌, ◌+◌, ◌≤◌, ◌<◌, eqb, length, get_or, Some, IfSome};
 ghost use Rattle.std.specs.Option.{is_none, unwrap_or};
-ghost use Rattle.law.specs.Sums.{both};
 ghost use Rattle.law.specs.Table.{word_of};
 ghost use Rattle.law.specs.Tick.{no_row, core_at, release_row, advance_row, choose as choose_law, full_length, begin, finish as finish_law, tick as tick_law, run as run_law, clock_end};
 ghost use Rattle.law.specs.State.{state_of, laid, with_row};
@@ -80,11 +79,11 @@ fn advance_one(words: &mut [u64], i: usize, chosen: bool)
     put_going(words, i, wait, rest, left - 1);
 }
 
-// Whether a job with that work left and that kind is live and mandatory.
-fn is_urgent(work: u64, kind: u64) -> bool
-    ensures { result ≡ both (ltb 0 work) (eqb kind 1) }
+// Whether a live job of that kind is mandatory.
+fn is_mandatory(kind: u64) -> bool
+    ensures { result ≡ eqb kind 1 }
 {
-    work > 0 && kind == 1
+    kind == 1
 }
 
 // Step 2: the mandatory live job of the highest row; if there is none, the optional one of the highest row; if none,
@@ -96,11 +95,10 @@ fn choose(words: &[u64]) -> Option<usize>
 {
     let mut optional = None;
     for i in 0..rows_of(words) {
-        let work = word(words, i, WORK);
-        if is_urgent(work, word(words, i, KIND)) {
-            return Some(i);
-        }
-        if work > 0 {
+        if word(words, i, WORK) > 0 {
+            if is_mandatory(word(words, i, KIND)) {
+                return Some(i);
+            }
             optional = optional.or(Some(i));
         }
     }

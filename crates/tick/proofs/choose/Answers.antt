@@ -4,18 +4,18 @@ use mathlib.Core.List.{List}
 use mathlib.Core.Path.{◌≡◌, refl, sym, ap, ◌∙◌, subst}
 use Prim.Native.Nat.{ℕ, ◌+◌, ◌*◌, ◌≤◌, ◌<◌}
 use native.Mathlib.Omega.{arith}
-use lib.Dec.{eqb, ltb}
+use lib.Dec.{eqb}
 use lib.ListN.{length, get_or}
 use borrow.Author.Tests.{lt-ltb, le-ltb}
 use Rattle.std.proofs.Common.{Option, None, Some}
 use Rattle.std.specs.Option.{option_or, unwrap_or}
-use Rattle.law.specs.Sums.{both, first}
+use Rattle.law.specs.Sums.{first}
 use Rattle.law.specs.Tick.{Row, core_at, choose}
 use Rattle.law.specs.State.{row_of, state_of}
 use Rattle.law.proofs.First.{searched_hit, searched_next, searched_end}
 use Rattle.rows.proofs.Words.{row_read}
 use Rattle.tick.proofs.choose.Invariants.{urgents, lives, Best, Choosing}
-use Rattle.tick.proofs.choose.Goals.{After-is_urgent, else-work-gt0, then-work-gt0}
+use Rattle.tick.proofs.choose.Goals.{else-word-gt0, then-word-gt0+else-is_mandatory}
 use Rattle.tick.proofs.choose.Goals as goal
 
 -- the first live row found, after one more that is not live, or is
@@ -60,40 +60,41 @@ module _ (words : List ℕ) (i : ℕ) (h : i < length (state_of words).rows) whe
   unfolding row_of
   kind-is = ap (λ (z : Row). z.core.kind) (row_read words i h)
 
-  live-is : ltb 0 (get_or words (i * 20 + (3 + 9)) 0) ≡ lives words i
+  is-live : 0 < get_or words (i * 20 + (3 + 9)) 0 → lives words i ≡ true
   unfolding lives
-  live-is = ap (ltb 0) work-is
+  is-live w = lt-ltb 0 (core_at (state_of words).rows i).work (omega (arith, work-is))
 
-  urgent-is : both (ltb 0 (get_or words (i * 20 + (3 + 9)) 0)) (eqb (get_or words (i * 20 + (3 + 11)) 0) 1) ≡ urgents words i
-  unfolding urgents
-  urgent-is = rw (work-is, kind-is)
+  not-live : get_or words (i * 20 + (3 + 9)) 0 ≤ 0 → lives words i ≡ false
+  unfolding lives
+  not-live w = le-ltb 0 (core_at (state_of words).rows i).work (omega (arith, work-is))
 
-row_in : (c : After-is_urgent) → c.loop-i.i < length (state_of c.args.words.now).rows
-row_in c = omega (arith, c.rows_of-i-end.ensures, c.loop-i-test.true)
+  -- b tells whether the kind that is read is 1
+  urgent-is : (b : Bool) → 0 < get_or words (i * 20 + (3 + 9)) 0 → b ≡ eqb (get_or words (i * 20 + (3 + 11)) 0) 1 → urgents words i ≡ b
+  unfolding urgents lives
+  urgent-is b w e = rw (is-live w) (ap (λ (z : ℕ). eqb z 1) (sym kind-is) ∙ sym e)
 
--- what the row is, by the two words that were read
-told : (c : After-is_urgent) → urgents c.args.words.now c.loop-i.i ≡ c.is_urgent.result
-told c = let u = urgent-is c.args.words.now c.loop-i.i (row_in c) in cc
+  dead-calm : get_or words (i * 20 + (3 + 9)) 0 ≤ 0 → urgents words i ≡ false
+  unfolding urgents lives
+  dead-calm w = rw (not-live w)
 
-living : (c : After-is_urgent) → lives c.args.words.now c.loop-i.i ≡ ltb 0 c.word-work.result
-living c = let u = live-is c.args.words.now c.loop-i.i (row_in c) in cc
-
-pub returns-then-is_urgent-clause-row : goal.returns-then-is_urgent-clause-row
-returns-then-is_urgent-clause-row c =
-    let at = (goal.at.returns-then-is_urgent-clause-row c).After-is_urgent in
-    chosen_urgent c.loop-i.invariant (row_in at) (told at ∙ c.if-is_urgent.true)
+pub returns-then-is_mandatory-clause-row : goal.returns-then-is_mandatory-clause-row
+returns-then-is_mandatory-clause-row c =
+    let words = c.args.words.now in
+    let h : c.loop-i.i < length (state_of words).rows = omega (arith, c.rows_of-i-end.ensures, c.loop-i-test.true) in
+    chosen_urgent c.loop-i.invariant h (urgent-is words _ h c.is_mandatory.result (omega (arith, c.if-word-gt0.true, c.word.ensures)) (c.is_mandatory.ensures ∙ ap (λ (z : ℕ). eqb z 1) c.word-then-word-gt0.ensures) ∙ c.if-is_mandatory.true)
 
 pub loop-i-preserved : goal.loop-i-preserved
 loop-i-preserved c =
-    let at = (goal.at.loop-i-preserved c).After-is_urgent in
+    let words = c.args.words.now in
     let g = c.loop-i.invariant in
-    choosing-next g _ (row_in at) (told at ∙ c.if-is_urgent.false)
-    (elim c.if-work-gt0.branch [
-      | else-work-gt0 w ↦ subst (Best (lives c.args.words.now) _ _) (sym w.optional-is)
-          (best_dead g.best-live (row_in at) (living at ∙ le-ltb 0 c.word-work.result w.if-work-gt0.false))
-      | then-work-gt0 w ↦ subst (Best (lives c.args.words.now) _ _) (sym (w.optional-is ∙ w.or-optional.ensures))
-          (best_live _ g.best-live (row_in at) (living at ∙ lt-ltb 0 c.word-work.result w.if-work-gt0.true))
-    ])
+    let h : c.loop-i.i < length (state_of words).rows = omega (arith, c.rows_of-i-end.ensures, c.loop-i-test.true) in
+    elim c.if-word-gt0.branch [
+      | else-word-gt0 w ↦ let off : get_or words (c.loop-i.i * 20 + (3 + 9)) 0 ≤ 0 = omega (arith, w.if-word-gt0.false, c.word.ensures) in
+          choosing-next g _ h (dead-calm words _ h off) (subst (Best (lives words) _ _) (sym w.optional-is) (best_dead g.best-live h (not-live words _ h off)))
+      | then-word-gt0+else-is_mandatory w ↦ let on : 0 < get_or words (c.loop-i.i * 20 + (3 + 9)) 0 = omega (arith, w.if-word-gt0.true, c.word.ensures) in
+          choosing-next g _ h (urgent-is words _ h w.is_mandatory.result on (w.is_mandatory.ensures ∙ ap (λ (z : ℕ). eqb z 1) w.word-then-word-gt0.ensures) ∙ w.if-is_mandatory.false)
+          (subst (Best (lives words) _ _) (sym (w.optional-is ∙ w.or-optional.ensures)) (best_live _ g.best-live h (is-live words _ h on)))
+    ]
 
 pub returns-clause-row : goal.returns-clause-row
 returns-clause-row c = chosen_live c.loop-i.invariant (omega (arith, c.loop-i-test.false, c.rows_of-i-end.ensures))

@@ -1,6 +1,6 @@
 -- `line::put::put_bytes` meets its contract: so many bytes of the part stand at the place, the others are as they were.
 use mathlib.Core.List.{List}
-use mathlib.Core.Path.{◌≡◌, refl, sym, ap, ◌∙◌}
+use mathlib.Core.Path.{◌≡◌, sym, ap, ◌∙◌}
 use Prim.Native.Nat.{ℕ, ◌+◌}
 use native.Mathlib.Numerals.{add-one}
 use native.Mathlib.Omega.{arith}
@@ -25,4 +25,4 @@ returns c =
     let l = c.loop-i in
     let a = c.args in
     let e : l.i ≡ length a.part.now = omega arith in
-    record { place = refl; bytes = l.invariant ∙ ap (λ (z : ℕ). paste a.out.now a.at a.part.now z) e ∙ put_paste a.out.now a.at a.part.now }
+    record { place = omega arith; bytes = l.invariant ∙ ap (λ (z : ℕ). paste a.out.now a.at a.part.now z) e ∙ put_paste a.out.now a.at a.part.now }
